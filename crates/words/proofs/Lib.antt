@@ -1,0 +1,6 @@
+-- The laws of words, in the order in which they build on each other; each definition's claim stands with its laws.
+pub mod Tests
+pub mod Deciding
+pub mod Turning
+pub mod Standing
+pub mod Overlaps

@@ -1,0 +1,36 @@
+-- The overlap of two words: the length of the longest ending of the one that is also a beginning of the other.
+use mathlib.Core.Path.{_≡_}
+use mathlib.Core.Bool.{true, false}
+use mathlib.Core.List.{List, _++_}
+use Prim.Native.Nat.{ℕ, zero, suc, _-_, _≤_}
+use lib.Dec.{leb}
+use lib.ListN.{length, take, drop}
+use Rattle.words.specs.Tests.{pick, same}
+
+-- a ends in o bands with which b begins
+pub record Shares (a b : List ℕ) (o : ℕ) : Type 0 where
+  pub rest : List ℕ
+  pub shared : List ℕ
+  pub more : List ℕ
+  pub ending : a ≡ rest ++ shared
+  pub beginning : b ≡ shared ++ more
+  pub size : length shared ≡ o
+
+pub record Longest (a b : List ℕ) (o : ℕ) : Type 0 where
+  pub shares : Shares a b o
+  pub most : (m : ℕ) → Shares a b m → m ≤ o
+
+-- The claim that pins `overlap`.
+abbrev pub Overlaps : (List ℕ → List ℕ → ℕ) → Type 0
+Overlaps w = (a b : List ℕ) → Longest a b (w a b)
+
+-- the longest of at most o bands
+abbrev pub overlapFrom : ℕ → List ℕ → List ℕ → ℕ
+overlapFrom zero a b = 0
+overlapFrom (suc o) a b = elim (same (drop (length a - suc o) a) (take (suc o) b)) [
+  | true ↦ suc o
+  | false ↦ overlapFrom o a b
+]
+
+abbrev pub overlap : List ℕ → List ℕ → ℕ
+overlap a b = overlapFrom (pick (leb (length a) (length b)) (length a) (length b)) a b

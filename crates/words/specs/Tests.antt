@@ -1,0 +1,15 @@
+-- Choices by a test, and the test for equal words.
+use mathlib.Core.Bool.{Bool, true, false, _&&_}
+use mathlib.Core.List.{List, [], _∷_}
+use Prim.Native.Nat.{ℕ}
+use lib.Dec.{eqb}
+
+abbrev pub pick : {A : Type 0} → Bool → A → A → A
+pick true a b = a
+pick false a b = b
+
+abbrev pub same : List ℕ → List ℕ → Bool
+same [] [] = true
+same [] (y ∷ ys) = false
+same (x ∷ xs) [] = false
+same (x ∷ xs) (y ∷ ys) = eqb x y && same xs ys
