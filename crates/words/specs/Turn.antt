@@ -1,15 +1,16 @@
 -- Turned forms (reversals of strings).
 use mathlib.Core.Path.{_≡_}
-use mathlib.Core.List.{List, _++_, reverse, map}
+use mathlib.Core.List.{List, [], _∷_, _++_}
 use Prim.Native.Nat.{ℕ, suc, _+_}
 use lib.ListN.{length, getD}
 
--- the bands read from the last to the first, each seen as the band map m shows it from the back
-unfoldable pub turnedBy : (ℕ → ℕ) → List ℕ → List ℕ
-turnedBy m c = map m (reverse c)
+-- read from the last to the first, each seen from behind as m shows it
+abbrev pub turnedBy : {A : Type 0} → (A → A) → List A → List A
+turnedBy m [] = []
+turnedBy m (b ∷ c) = turnedBy m c ++ (m b ∷ [])
 
--- turned: the bands read from the last to the first (the reversal); every band looks the same from the back
-abbrev pub turned : List ℕ → List ℕ
+-- turned: the bands read from the last to the first (the reversal); a band looks the same from behind
+unfoldable pub turned : List ℕ → List ℕ
 turned c = turnedBy (λ b. b) c
 
 -- What the rest of the work asks of a way to turn words, and all that it may use of it: the length stays, a word turned
