@@ -11,6 +11,7 @@ use borrow.Author.Tests.{eq-eqb, ne-eqb}
 use Rattle.words.specs.Lists.{In}
 use Rattle.words.specs.Tests.{pick}
 use Rattle.words.specs.Turn.{turnedBy}
+use Rattle.words.proofs.Lists.{in-left, in-right}
 use Rattle.words.proofs.Turning.{by-back}
 use Rattle.joins.specs.Faces.{mirror, headOf, lastOf}
 use Rattle.joins.proofs.Sums.{sum}
@@ -54,14 +55,6 @@ pub last-flip : (p : List ℕ) → Some p → lastOf (flip p) ≡ mirror (headOf
 last-flip (f ∷ p) s = last-append (flip p) (mirror f ∷ []) tt
 
 -- the faces in it
-in-left : (f : ℕ) (p q : List ℕ) → In f p → In f (p ++ q)
-in-left f (g ∷ p) q (inl e) = inl e
-in-left f (g ∷ p) q (inr i) = inr (in-left f p q i)
-
-in-right : (f : ℕ) (p q : List ℕ) → In f q → In f (p ++ q)
-in-right f [] q i = i
-in-right f (g ∷ p) q i = inr (in-right f p q i)
-
 pub in-head : (p : List ℕ) → Some p → In (headOf p) p
 in-head (f ∷ p) s = inl refl
 

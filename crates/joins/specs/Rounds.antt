@@ -33,10 +33,11 @@ allowed n js j =
     && (beginsPiece js (j .right)
     && (not (eqb (endFrom (2 * n) (j .right) js) (j .left)) && not (eqb (j .right) (mirror (j .left)))))
 
--- The tie rule, in one comparison: j is better than k if its overlap is larger, or as large and its key is lower; the key
--- is the face that it goes from, then the one that it goes to.
+-- The tie rule, in one comparison: j is better than k if its overlap is larger, or as large and its key is lower, at the
+-- first difference; the key is the face that it goes from, then the one that it goes to.
 abbrev pub lower : List ℕ → List ℕ → Bool
-lower [] ys = false
+lower [] [] = false
+lower [] (y ∷ ys) = true
 lower (x ∷ xs) [] = false
 lower (x ∷ xs) (y ∷ ys) = ltb x y || (eqb x y && lower xs ys)
 

@@ -6,7 +6,7 @@ use mathlib.Core.Bool.{Bool, true, false, _&&_, _||_, not, true≢false}
 use mathlib.Core.List.{List}
 use Prim.Native.Nat.{ℕ, _≤_, _<_}
 use lib.Dec.{eqb, leb, ltb}
-use borrow.Author.Tests.{eqb-true, eq-eqb, leb-true, le-leb, ltb-true, lt-ltb}
+use borrow.Author.Tests.{eqb-true, eq-eqb, leb-true, le-leb, ltb-true, ltb-false, lt-ltb}
 use Rattle.words.specs.Tests.{same}
 use Rattle.words.specs.Decides.{Decides, yes, no}
 use Rattle.words.proofs.Tests.{same-eq, eq-same}
@@ -72,3 +72,6 @@ is-eq a b = decide (eqb a b) (eqb-true a b) (eq-eqb a b)
 
 pub is-same : (x y : List ℕ) → Decides (x ≡ y) (same x y)
 is-same x y = decide (same x y) (same-eq x y) (eq-same x y)
+
+pub not-lt : {a b : ℕ} → (a < b → ⊥) → b ≤ a
+not-lt {a} {b} h = ltb-false a b (refuses (is-lt a b) h)

@@ -1,4 +1,5 @@
 -- The laws of words, in the order in which they build on each other; each definition's claim stands with its laws.
+pub mod Lists
 pub mod Tests
 pub mod Deciding
 pub mod Turning
