@@ -9,7 +9,8 @@ use native.Mathlib.Omega.{arith}
 use native.Mathlib.Decide.{ℕ-discrete}
 use lib.ListN.{length}
 use Rattle.words.specs.Lists.{Each}
-use Rattle.joins.proofs.Sums.{sum, sum-append, sum-length, each-at}
+use Rattle.words.proofs.Lists.{in-right, each-in}
+use Rattle.joins.proofs.Sums.{sum, sum-append, sum-length}
 use Rattle.joins.proofs.Pieces.{flip, flip-flip}
 
 -- A is an arrangement of the pieces Q
@@ -106,8 +107,8 @@ find p (a ∷ A) h = go (find p A) (equal-cases p a) (equal-cases p (flip a))
 -- what holds of each piece and of its flip holds of each in an arrangement
 module _ (C : List ℕ → Type 0) (flipped : (p : List ℕ) → C p → C (flip p)) where
   found-each : {p : List ℕ} {A : List (List ℕ)} → Found p A → Each C A → C p
-  found-each {p} (asis X Y) h = each-at C X p Y h
-  found-each {p} (over X Y) h = subst C (flip-flip p) (flipped (flip p) (each-at C X (flip p) Y h))
+  found-each {p} (asis X Y) h = each-in C (X ++ (p ∷ Y)) p h (in-right p X (p ∷ Y) (inl refl))
+  found-each {p} (over X Y) h = subst C (flip-flip p) (flipped (flip p) (each-in C (X ++ (flip p ∷ Y)) (flip p) h (in-right (flip p) X (flip p ∷ Y) (inl refl))))
 
   each-found : (A : List (List ℕ)) → ((p : List ℕ) → 1 ≤ sum (alike p) A → C p) → Each C A
   each-found [] h = tt

@@ -8,17 +8,16 @@ pub mod Arrange
 pub mod Junctions
 pub mod Exchange
 pub mod Greedy
-
 -- The list of joins describes pieces, and the joins that the rule allows are those between two of them.
 pub mod Links
 pub mod State
 pub mod Step
 pub mod Allowed
 pub mod Ruled
-
 -- Whoever settles the ties, a run of largest joins keeps half.
 pub mod Runs
-
 -- Each of our rounds finds the join that the rule chooses.
 pub mod Search
 pub mod Ties
+pub mod Rounds
+pub mod Order

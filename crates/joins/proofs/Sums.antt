@@ -1,10 +1,9 @@
--- Sums over a list: of its parts, and turned; and a property of each element, taken out or put in.
+-- Sums over a list: of its parts, and turned.
 use mathlib.Core.Path.{_≡_, refl}
 use mathlib.Core.List.{List, [], _∷_, _++_}
 use Prim.Native.Nat.{ℕ, _+_}
 use native.Mathlib.Omega.{arith}
 use lib.ListN.{length}
-use Rattle.words.specs.Lists.{Each}
 use Rattle.words.specs.Turn.{turnedBy}
 
 module _ {P : Type 0} where
@@ -23,18 +22,6 @@ module _ {P : Type 0} where
   pub sum-length : (A : List P) → sum (λ a. 1) A ≡ length A
   sum-length [] = refl
   sum-length (a ∷ A) = omega (arith, sum-length A)
-
-  pub each-at : (C : P → Type 0) (X : List P) (a : P) (Y : List P) → Each C (X ++ (a ∷ Y)) → C a
-  each-at C [] a Y h = h .0
-  each-at C (x ∷ X) a Y h = each-at C X a Y (h .1)
-
-  pub each-put : (C : P → Type 0) (X : List P) (a : P) (Y : List P) → C a → Each C (X ++ Y) → Each C (X ++ (a ∷ Y))
-  each-put C [] a Y c h = (c, h)
-  each-put C (x ∷ X) a Y c h = (h .0, each-put C X a Y c (h .1))
-
-  pub each-map : (C D : P → Type 0) → ((a : P) → C a → D a) → (A : List P) → Each C A → Each D A
-  each-map C D f [] h = tt
-  each-map C D f (a ∷ A) h = (f a (h .0), each-map C D f A (h .1))
 
   pub sum-turned : (u : P → ℕ) (f : P → P) → ((a : P) → u (f a) ≡ u a) → (A : List P) → sum u (turnedBy f A) ≡ sum u A
   sum-turned u f e [] = refl

@@ -1,1 +1,4 @@
--- The laws of lists.
+-- The laws of lists: runs cut and joined, the tests of the rules, and wrong tests caught.
+pub mod Runs
+pub mod Rules
+pub mod Impostors

@@ -7,7 +7,7 @@ use Prim.Native.Nat.{ℕ, _≤_, _<_}
 use lib.ListN.{length}
 use Rattle.words.specs.Lists.{In, Each, Once}
 use Rattle.words.specs.Decides.{Decides}
-use Rattle.lists.specs.Runs.{codesIn, total}
+use Rattle.lists.specs.Runs.{codesIn, total, flat, lengths}
 
 -- a band is a byte A to Z
 abbrev pub Band : ℕ → Type 0
@@ -38,9 +38,24 @@ pub data FalseCodes (run ls : List ℕ) : Type 0 where
 -- rule for names; one that is used twice breaks it.
 pub data FalseNames (codes : ℕ) (run ls : List ℕ) : Type 0 where
   other-count : length ls ≢ codes → FalseNames codes run ls
-  other-sum : total ls ≢ length run → FalseNames codes run ls
+  other-names-sum : total ls ≢ length run → FalseNames codes run ls
   no-name : (n : List ℕ) → In n (codesIn run ls) → (NameRule n → ⊥) → FalseNames codes run ls
   used-twice : (Once (codesIn run ls) → ⊥) → FalseNames codes run ls
+
+-- What is left when no clause refuses: the run and the lengths are those of words that keep the rules.
+pub record FitList (run ls : List ℕ) : Type 0 where
+  pub some : 1 ≤ length ls
+  pub at-most : length ls ≤ 128
+  pub coded : Each CodeRule (codesIn run ls)
+  pub joined : flat (codesIn run ls) ≡ run
+  pub as-long : lengths (codesIn run ls) ≡ ls
+
+pub record FitNames (codes : ℕ) (run ls : List ℕ) : Type 0 where
+  pub one-each : length ls ≡ codes
+  pub named : Each NameRule (codesIn run ls)
+  pub once : Once (codesIn run ls)
+  pub joined : flat (codesIn run ls) ≡ run
+  pub as-long : lengths (codesIn run ls) ≡ ls
 
 -- The claims that pin the tests: a test passes exactly the lists that no clause refuses.
 abbrev pub ChecksCodes : (List ℕ → List ℕ → Bool) → Type 0

@@ -40,6 +40,12 @@ module _ {P : Type 0} where
   stable (yes p) h = p
   stable (no q) h = absurd (h q)
 
+  -- a choice by a test has what both its cases have
+  pub by-cases : {A : Type 0} (Q : A → Type 0) {t : Bool} {a b : A} → Decides P t → (P → Q a) → ((P → ⊥) → Q b)
+      → Q (elim t [ true ↦ a | false ↦ b ])
+  by-cases Q (yes p) f g = f p
+  by-cases Q (no n) f g = g n
+
   -- two tests of one statement are the same
   pub decides-one : {s t : Bool} → Decides P s → Decides P t → s ≡ t
   decides-one (yes p) d = sym (passes d p)

@@ -5,3 +5,5 @@ pub mod Deciding
 pub mod Turning
 pub mod Standing
 pub mod Overlaps
+pub mod Placing
+pub mod Impostors

@@ -1,8 +1,10 @@
--- What is in a list, by its parts.
+-- What is in a list, and what holds of each of a list, by its parts.
 use mathlib.Core.Path.{_≡_, refl, ap}
 use mathlib.Core.Logic.{_⊎_, inl, inr}
 use mathlib.Core.List.{List, [], _∷_, _++_, map}
-use Rattle.words.specs.Lists.{In}
+use Prim.Native.Nat.{ℕ, zero, suc}
+use lib.ListN.{take, drop}
+use Rattle.words.specs.Lists.{In, Each}
 
 module _ {A : Type 0} where
   pub in-left : (x : A) (xs ys : List A) → In x xs → In x (xs ++ ys)
@@ -30,3 +32,35 @@ module _ {A B : Type 0} (f : A → B) where
   pub map-in : (z : B) (xs : List A) → In z (map f xs) → (x : A) × In x xs × (z ≡ f x)
   map-in z (y ∷ xs) (inl e) = (y, inl refl, e)
   map-in z (y ∷ xs) (inr i) = let r = map-in z xs i in (r .0, inr (r .1), r .2)
+
+module _ {A : Type 0} (P : A → Type 0) where
+  pub in-each : (xs : List A) → ((x : A) → In x xs → P x) → Each P xs
+  in-each [] f = tt
+  in-each (x ∷ xs) f = (f x (inl refl), in-each xs (λ y i. f y (inr i)))
+
+  pub each-in : (xs : List A) (x : A) → Each P xs → In x xs → P x
+  each-in (y ∷ ys) x (p, h) (inl e) = rw e p
+  each-in (y ∷ ys) x (p, h) (inr i) = each-in ys x h i
+
+  pub each-take : (n : ℕ) (xs : List A) → Each P xs → Each P (take n xs)
+  each-take zero xs h = tt
+  each-take (suc n) [] h = tt
+  each-take (suc n) (x ∷ xs) (p, h) = (p, each-take n xs h)
+
+  pub each-drop : (n : ℕ) (xs : List A) → Each P xs → Each P (drop n xs)
+  each-drop zero xs h = h
+  each-drop (suc n) [] h = tt
+  each-drop (suc n) (x ∷ xs) (p, h) = each-drop n xs h
+
+  pub each-append : (xs ys : List A) → Each P xs → Each P ys → Each P (xs ++ ys)
+  each-append [] ys h g = g
+  each-append (x ∷ xs) ys (p, h) g = (p, each-append xs ys h g)
+
+  -- one more, put anywhere
+  pub each-put : (xs : List A) (a : A) (ys : List A) → P a → Each P (xs ++ ys) → Each P (xs ++ (a ∷ ys))
+  each-put [] a ys p h = (p, h)
+  each-put (x ∷ xs) a ys p h = (h .0, each-put xs a ys p (h .1))
+
+pub each-map : {A : Type 0} (P Q : A → Type 0) → ((x : A) → P x → Q x) → (xs : List A) → Each P xs → Each Q xs
+each-map P Q f [] h = tt
+each-map P Q f (x ∷ xs) h = (f x (h .0), each-map P Q f xs (h .1))

@@ -9,7 +9,7 @@ use lib.Seq.{getD-at, ext-getD}
 use Rattle.words.specs.Turn.{turnedBy, turned, Turning, Turns}
 
 module _ {A : Type 0} (m : A → A) where
-  by-length : (c : List A) → length (turnedBy m c) ≡ length c
+  pub by-length : (c : List A) → length (turnedBy m c) ≡ length c
   by-length [] = refl
   by-length (b ∷ c) = omega (arith, length-append (turnedBy m c) (m b ∷ []), by-length c)
 

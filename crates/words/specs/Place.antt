@@ -10,20 +10,20 @@ pub data Place : Type 0 where
   turned-at : ℕ → Place
   nowhere : Place
 
+-- neither way stands at i
+pub record Neither (turn : List ℕ → List ℕ) (c s : List ℕ) (i : ℕ) : Type 0 where
+  pub not-given : StandsAt c s i → ⊥
+  pub not-turned : StandsAt (turn c) s i → ⊥
+
 -- The claim that pins the search, for a way to turn and a first start k: the smallest place from k on, or none.
 module _ (turn : List ℕ → List ℕ) (k : ℕ) (c s : List ℕ) where
-  -- neither way stands at i
-  pub record Neither (i : ℕ) : Type 0 where
-    pub not-given : StandsAt c s i → ⊥
-    pub not-turned : StandsAt (turn c) s i → ⊥
-
   abbrev pub NoneBefore : ℕ → Type 0
-  NoneBefore i = (j : ℕ) → k ≤ j → j < i → Neither j
+  NoneBefore i = (j : ℕ) → k ≤ j → j < i → Neither turn c s j
 
   pub data IsPlace : Place → Type 0 where
     is-given : {i : ℕ} → k ≤ i → StandsAt c s i → NoneBefore i → IsPlace (given-at i)
     is-turned : {i : ℕ} → k ≤ i → (StandsAt c s i → ⊥) → StandsAt (turn c) s i → NoneBefore i → IsPlace (turned-at i)
-    is-nowhere : ((j : ℕ) → k ≤ j → Neither j) → IsPlace nowhere
+    is-nowhere : ((j : ℕ) → k ≤ j → Neither turn c s j) → IsPlace nowhere
 
 -- a search that finds each word's place on each row
 abbrev pub Finds : (List ℕ → List ℕ) → (List ℕ → List ℕ → Place) → Type 0

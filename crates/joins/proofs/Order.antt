@@ -1,0 +1,44 @@
+-- The order of faces: what is read from the joins is the piece that holds face 0.
+use mathlib.Core.Path.{_≡_, sym, ap, subst, _∙_}
+use mathlib.Core.Logic.{_⊎_, inl, inr}
+use mathlib.Core.List.{List, [], _∷_}
+use Prim.Native.Nat.{ℕ, zero, suc, _-_, _*_, _≤_}
+use native.Mathlib.Omega.{arith}
+use lib.ListN.{length}
+use borrow.Author.Tests.{eq-eqb, ne-eqb}
+use Rattle.words.specs.Lists.{In}
+use Rattle.words.proofs.Turning.{by-length}
+use Rattle.joins.specs.Faces.{mirror, Join, headOf, lastOf}
+use Rattle.joins.specs.Rules.{IsPiece, Chosen, Joins}
+use Rattle.joins.specs.Rounds.{afterIn, endFrom, startFrom, pieceFrom, pieceOf, layoutOf, orderOf}
+use Rattle.joins.proofs.Mirrors.{mirror-mirror}
+use Rattle.joins.proofs.Pieces.{flip, Some, last-flip, in-flip, times-in}
+use Rattle.joins.proofs.Arrange.{arr-flip}
+use Rattle.joins.proofs.Links.{Linked, Piece, piece-flip}
+use Rattle.joins.proofs.Allowed.{end-in}
+use Rattle.joins.proofs.Ruled.{piece-of, is-piece}
+
+read-stop : (n f : ℕ) (js : List Join) → afterIn f js ≡ 0 → pieceFrom (suc n) f js ≡ f ∷ []
+read-stop n f js e = rw (eq-eqb (afterIn f js) 0 e, pieceFrom)
+
+read-go : (n f g : ℕ) (js : List Join) → afterIn f js ≡ suc g → pieceFrom (suc n) f js ≡ f ∷ pieceFrom n g js
+read-go n f g js e =
+    let some = ne-eqb (afterIn f js) 0 (omega arith) in
+    let d : pieceFrom (suc n) f js ≡ f ∷ pieceFrom n (afterIn f js - 1) js = rw (some, pieceFrom) in
+    d ∙ ap (λ (x : ℕ). f ∷ pieceFrom n x js) (omega arith)
+
+read-linked : (js : List Join) (n : ℕ) (p : List ℕ) → Some p → Linked js p → afterIn (lastOf p) js ≡ 0 → length p ≤ n
+    → pieceFrom n (headOf p) js ≡ p
+read-linked js zero (f ∷ p) s r e h = absurd (omega arith)
+read-linked js (suc n) (f ∷ []) s r e h = read-stop n f js e
+read-linked js (suc n) (f ∷ (g ∷ p)) s r e h =
+    read-go n f g js (r .0 .0) ∙ ap (λ (x : List ℕ). f ∷ x) (read-linked js n (g ∷ p) tt (r .1) e (omega arith))
+
+-- back to the start of the piece p by its flip, and on from there
+read-piece : (n : ℕ) (js : List Join) (p : List ℕ) → Piece js p → length p ≤ 2 * n → In 0 p → pieceOf n js ≡ p
+read-piece n js p P l z =
+    let F = piece-flip js p P in
+    let y = in-flip (mirror 0) p (subst (λ (x : ℕ). In x p) (sym (mirror-mirror 0)) z) in
+    let e = end-in js (2 * n) (flip p) (mirror 0) (F .linked) (F .ends) (omega (arith, by-length mirror p)) y in
+    let s = ap mirror (e ∙ last-flip p (P .some)) ∙ mirror-mirror (headOf p) in
+    ap (λ (x : ℕ). pieceFrom (2 * n) x js) s ∙ read-linked js (2 * n) p (P .some) (P .linked) (P .ends) l

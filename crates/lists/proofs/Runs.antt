@@ -1,0 +1,36 @@
+-- A run cut into words and joined again is as before, and words joined into a run and cut again are as before: each by
+-- induction over the words, or over their lengths.
+use mathlib.Core.Path.{_≡_, refl}
+use mathlib.Core.List.{List, [], _∷_}
+use Prim.Native.Nat.{ℕ}
+use native.Mathlib.Omega.{arith}
+use lib.ListN.{length, drop, length-append, length-drop, take-append-drop}
+use lib.Seq.{length-take-le, take-at, drop-at}
+use Rattle.lists.specs.Runs.{codesIn, total, flat, lengths}
+
+-- from words to a run and back
+pub cut-again : (cs : List (List ℕ)) → codesIn (flat cs) (lengths cs) ≡ cs
+cut-again [] = refl
+cut-again (c ∷ cs) = rw (take-at, drop-at, cut-again cs)
+
+pub total-lengths : (cs : List (List ℕ)) → total (lengths cs) ≡ length (flat cs)
+total-lengths [] = refl
+total-lengths (c ∷ cs) = omega (arith, total-lengths cs, length-append c (flat cs))
+
+-- from a run to words and back, where the lengths add up to the run
+pub rest-adds-up : (run : List ℕ) (n : ℕ) (ns : List ℕ) → total (n ∷ ns) ≡ length run → total ns ≡ length (drop n run)
+rest-adds-up run n ns e = omega (arith, length-drop n run)
+
+pub flat-again : (run ls : List ℕ) → total ls ≡ length run → flat (codesIn run ls) ≡ run
+flat-again [] [] e = refl
+flat-again (b ∷ run) [] e = absurd (omega arith)
+flat-again run (n ∷ ns) e = rw (flat-again (drop n run) ns (rest-adds-up run n ns e)) (take-append-drop n run)
+
+pub lengths-again : (run ls : List ℕ) → total ls ≡ length run → lengths (codesIn run ls) ≡ ls
+lengths-again run [] e = refl
+lengths-again run (n ∷ ns) e =
+    cc (length-take-le n run (omega arith), lengths-again (drop n run) ns (rest-adds-up run n ns e))
+
+-- and only there
+pub adds-up : (run ls : List ℕ) → flat (codesIn run ls) ≡ run → lengths (codesIn run ls) ≡ ls → total ls ≡ length run
+adds-up run ls f l = cc (total-lengths (codesIn run ls))

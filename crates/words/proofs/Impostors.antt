@@ -1,0 +1,178 @@
+-- Wrong ways to turn words, to find their overlap and to place them, each written out and caught by its claim.
+-- A claim has one outcome, so an impostor is caught where what it gives is not what ours gives. The searches have their
+-- parts open, so that a right one and the wrong ones are instances of one definition.
+use mathlib.Core.Path.{_≡_, refl}
+use mathlib.Core.Bool.{Bool, true, false}
+use mathlib.Core.List.{List, [], _∷_, _++_}
+use Prim.Native.Nat.{ℕ, zero, suc, _-_}
+use native.Mathlib.Omega.{arith}
+use lib.Dec.{leb}
+use lib.ListN.{length, take, drop}
+use Rattle.words.specs.Tests.{pick, same}
+use Rattle.words.specs.Turn.{turned, Turns}
+use Rattle.words.specs.Stand.{begins}
+use Rattle.words.specs.Overlap.{Overlaps, overlapFrom, overlap}
+use Rattle.words.specs.Place.{Place, given-at, turned-at, nowhere, Finds, placeFrom, placeOf, found}
+use Rattle.words.proofs.Turning.{turns-only}
+use Rattle.words.proofs.Overlaps.{overlaps-only}
+use Rattle.words.proofs.Placing.{finds-only}
+
+abbrev A : ℕ
+A = 65
+
+abbrev B : ℕ
+B = 66
+
+abbrev C : ℕ
+C = 67
+
+-- Turning: a word left as it is; its first band put last, the others as they were
+abbrev unturned : List ℕ → List ℕ
+unturned c = c
+
+abbrev firstLast : List ℕ → List ℕ
+firstLast [] = []
+firstLast (b ∷ c) = c ++ (b ∷ [])
+
+pub not-unturned : Turns unturned → ⊥
+unfolding turned
+not-unturned h =
+    let e : A ∷ B ∷ [] ≡ B ∷ A ∷ [] = turns-only unturned h (A ∷ B ∷ []) in
+    let z : A ≡ B = cc in
+    omega arith
+
+pub not-first-last : Turns firstLast → ⊥
+unfolding turned
+not-first-last h =
+    let e : B ∷ C ∷ A ∷ [] ≡ C ∷ B ∷ A ∷ [] = turns-only firstLast h (A ∷ B ∷ C ∷ []) in
+    let z : B ≡ C = cc in
+    omega arith
+
+-- Overlaps: the first of some lengths that is shared
+abbrev firstShared : List ℕ → List ℕ → List ℕ → ℕ
+firstShared [] a b = 0
+firstShared (o ∷ os) a b = elim (same (drop (length a - o) a) (take o b)) [
+  | true ↦ o
+  | false ↦ firstShared os a b
+]
+
+abbrev down : ℕ → List ℕ
+down zero = []
+down (suc n) = suc n ∷ down n
+
+abbrev up : ℕ → ℕ → List ℕ
+up i zero = []
+up i (suc n) = i ∷ up (suc i) n
+
+abbrev shorter : List ℕ → List ℕ → ℕ
+shorter a b = pick (leb (length a) (length b)) (length a) (length b)
+
+-- the right one; the shortest that is not empty; the longest that is no whole word
+abbrev longest : List ℕ → List ℕ → ℕ
+longest a b = firstShared (down (shorter a b)) a b
+
+abbrev shortest : List ℕ → List ℕ → ℕ
+shortest a b = firstShared (up 1 (shorter a b)) a b
+
+abbrev noWhole : List ℕ → List ℕ → ℕ
+noWhole a b = firstShared (down (shorter a b - 1)) a b
+
+pub longest-is-ours : (a b : List ℕ) → longest a b ≡ overlap a b
+longest-is-ours a b = from (shorter a b)
+  where
+    from : (n : ℕ) → firstShared (down n) a b ≡ overlapFrom n a b
+    from zero = refl
+    from (suc n) = cc (from n)
+
+pub not-shortest : Overlaps shortest → ⊥
+not-shortest h =
+    let e : _≡_ {A = ℕ} 1 2 = overlaps-only shortest h (B ∷ A ∷ A ∷ []) (A ∷ A ∷ B ∷ []) in
+    omega arith
+
+pub not-no-whole : Overlaps noWhole → ⊥
+not-no-whole h =
+    let e : _≡_ {A = ℕ} 0 2 = overlaps-only noWhole h (A ∷ B ∷ []) (A ∷ B ∷ []) in
+    omega arith
+
+-- Places: what is found at a start, and which of two places is taken, this start's or a later one
+abbrev searchFrom : (ℕ → List ℕ → List ℕ → Place) → (Place → Place → Place) → ℕ → List ℕ → List ℕ → Place
+searchFrom here taken i c [] = here i c []
+searchFrom here taken i c (b ∷ s) = taken (here i c (b ∷ s)) (searchFrom here taken (suc i) c s)
+
+abbrev choice : Bool → Place → Place → Place
+choice t p q = elim t [ true ↦ p | false ↦ q ]
+
+-- at a start: given before turned; turned before given; given only
+abbrev givenFirst : ℕ → List ℕ → List ℕ → Place
+givenFirst i c s = choice (begins c s) (given-at i) (choice (begins (turned c) s) (turned-at i) nowhere)
+
+abbrev turnedFirst : ℕ → List ℕ → List ℕ → Place
+turnedFirst i c s = choice (begins (turned c) s) (turned-at i) (choice (begins c s) (given-at i) nowhere)
+
+abbrev givenOnly : ℕ → List ℕ → List ℕ → Place
+givenOnly i c s = choice (begins c s) (given-at i) nowhere
+
+-- of two places: the earlier; the later
+abbrev earlier : Place → Place → Place
+earlier p q = choice (found p) p q
+
+abbrev later : Place → Place → Place
+later p q = choice (found q) q p
+
+-- the right one; one direction only; turned before given; the last start; starts counted from 1
+abbrev smallest : List ℕ → List ℕ → Place
+smallest = searchFrom givenFirst earlier 0
+
+abbrev oneDirection : List ℕ → List ℕ → Place
+oneDirection = searchFrom givenOnly earlier 0
+
+abbrev turnedBefore : List ℕ → List ℕ → Place
+turnedBefore = searchFrom turnedFirst earlier 0
+
+abbrev lastStart : List ℕ → List ℕ → Place
+lastStart = searchFrom givenFirst later 0
+
+abbrev fromOne : List ℕ → List ℕ → Place
+fromOne = searchFrom givenFirst earlier 1
+
+pub smallest-is-ours : (c s : List ℕ) → smallest c s ≡ placeOf turned c s
+smallest-is-ours c s = from 0 s
+  where
+    or-later : (i : ℕ) (t u : Bool) {p q : Place} → p ≡ q
+        → earlier (choice t (given-at i) (choice u (turned-at i) nowhere)) p
+        ≡ choice t (given-at i) (choice u (turned-at i) q)
+    or-later i true u e = refl
+    or-later i false true e = refl
+    or-later i false false e = e
+
+    from : (i : ℕ) (r : List ℕ) → searchFrom givenFirst earlier i c r ≡ placeFrom turned i c r
+    from i [] = refl
+    from i (b ∷ r) = or-later i (begins c (b ∷ r)) (begins (turned c) (b ∷ r)) (from (suc i) r)
+
+pub not-one-direction : Finds turned oneDirection → ⊥
+unfolding turned
+not-one-direction h =
+    let e : nowhere ≡ turned-at 0 = finds-only oneDirection h (A ∷ B ∷ []) (B ∷ A ∷ []) in
+    let z : _≡_ {A = ℕ} 0 1 = cc in
+    omega arith
+
+pub not-turned-before : Finds turned turnedBefore → ⊥
+unfolding turned
+not-turned-before h =
+    let e : turned-at 0 ≡ given-at 0 = finds-only turnedBefore h (A ∷ []) (A ∷ []) in
+    let z : _≡_ {A = ℕ} 0 1 = cc in
+    omega arith
+
+pub not-last-start : Finds turned lastStart → ⊥
+unfolding turned
+not-last-start h =
+    let e : given-at 1 ≡ given-at 0 = finds-only lastStart h (A ∷ []) (A ∷ A ∷ []) in
+    let z : _≡_ {A = ℕ} 1 0 = cc in
+    omega arith
+
+pub not-from-one : Finds turned fromOne → ⊥
+unfolding turned
+not-from-one h =
+    let e : given-at 1 ≡ given-at 0 = finds-only fromOne h (A ∷ []) (A ∷ []) in
+    let z : _≡_ {A = ℕ} 1 0 = cc in
+    omega arith

@@ -1,0 +1,157 @@
+-- The place of a word on a row: ours meets the claim, for every way of turning and every first start, and nothing else
+-- does. A word stands at i exactly if what is left of the row from i on begins with it, and this the search asks of one
+-- start after the other; so ours goes by induction over what is left of the row.
+use mathlib.Core.Path.{_≡_, refl, sym, ap, subst, _∙_}
+use mathlib.Core.Logic.{inl, inr}
+use mathlib.Core.Bool.{Bool, true, false}
+use mathlib.Core.List.{List, [], _∷_, _++_}
+use Prim.Native.Nat.{ℕ, suc, _≤_, _<_}
+use native.Mathlib.Numerals.{add-one}
+use native.Mathlib.Omega.{arith}
+use native.Mathlib.Nat.{le-antisymm, le-of-lt}
+use lib.ListN.{length, drop, take, take-append-drop, length-drop}
+use lib.Seq.{length-take-le, drop-at, drop-drop}
+use Rattle.words.specs.Decides.{Decides, yes, no}
+use Rattle.words.specs.Stand.{StandsAt, StandsSomeWay, begins}
+use Rattle.words.specs.Place.{Place, given-at, turned-at, nowhere, Finds, placeFrom, placeOf, found}
+use Rattle.words.specs.Place.{Neither, NoneBefore, IsPlace, is-given, is-turned, is-nowhere}
+use Rattle.words.proofs.Deciding.{stable, by-cases, decides-via, is-le}
+use Rattle.words.proofs.Standing.{Begins, is-beginning, stands-length}
+
+-- Standing at a start i, by what is left of the row from there.
+module _ {c s : List ℕ} {i : ℕ} where
+  start-within : StandsAt c s i → i ≤ length s
+  start-within h = omega (arith, h .start, stands-length (h .stands))
+
+  left-begins : StandsAt c s i → Begins c (drop i s)
+  left-begins h =
+      let st = h .stands in
+      (st .after, ap (drop i) (st .parts) ∙ drop-at (st .before) (c ++ st .after) i (h .start))
+
+  begins-left : i ≤ length s → Begins c (drop i s) → StandsAt c s i
+  begins-left l h =
+      record {
+        stands = record { before = take i s; after = h .0; parts = cc (take-append-drop i s, h .1) };
+        start = length-take-le i s l;
+      }
+
+is-standing-at : (c : List ℕ) {s r : List ℕ} {i : ℕ} → i ≤ length s → drop i s ≡ r
+    → Decides (StandsAt c s i) (begins c r)
+is-standing-at c {s} {r} {i} l e =
+    decides-via
+    (λ h. begins-left l (subst (Begins c) (sym e) h))
+    (λ h. subst (Begins c) e (left-begins h))
+    (is-beginning c r)
+
+-- The search, from the start k on.
+module _ (turn : List ℕ → List ℕ) (c s : List ℕ) where
+  none-yet : {k : ℕ} → NoneBefore turn k c s k
+  none-yet j l m = absurd (omega arith)
+
+  -- neither way stands at j: j is k, or later
+  past : {k j : ℕ} → Neither turn c s k → k ≤ j → (suc k ≤ j → Neither turn c s j) → Neither turn c s j
+  past {k} {j} n l later = go (is-le j k)
+    where
+      go : {t : Bool} → Decides (j ≤ k) t → Neither turn c s j
+      go (yes m) = subst (Neither turn c s) (le-antisymm l m) n
+      go (no m) = later (omega arith)
+
+  place-later : {k : ℕ} {p : Place} → Neither turn c s k → IsPlace turn (suc k) c s p → IsPlace turn k c s p
+  place-later n (is-given l h o) = is-given (le-of-lt l) h (λ j m b. past n m (λ r. o j r b))
+  place-later n (is-turned l x h o) = is-turned (le-of-lt l) x h (λ j m b. past n m (λ r. o j r b))
+  place-later n (is-nowhere o) = is-nowhere (λ j m. past n m (o j))
+
+  beyond : {j : ℕ} → length s < j → Neither turn c s j
+  beyond l =
+      record {
+        not-given = λ h. omega (arith, start-within h);
+        not-turned = λ h. omega (arith, start-within h);
+      }
+
+  place-nowhere : {k : ℕ} → length s ≤ k → Neither turn c s k → IsPlace turn k c s nowhere
+  place-nowhere e n = is-nowhere (λ j m. past n m (λ r. beyond (omega arith)))
+
+  -- what the search does at one start, going on to what it finds later
+  by-start : {k : ℕ} {r : List ℕ} (p : Place) → k ≤ length s → drop k s ≡ r
+      → (Neither turn c s k → IsPlace turn k c s p)
+      → IsPlace turn k c s (elim (begins c r) [
+        | true ↦ given-at k
+        | false ↦ elim (begins (turn c) r) [ true ↦ turned-at k | false ↦ p ]
+      ])
+  by-start {k} p l e go-on =
+      by-cases
+      (IsPlace turn k c s)
+      (is-standing-at c l e)
+      (λ h. is-given (omega arith) h none-yet)
+      (λ x. by-cases
+      (IsPlace turn k c s)
+      (is-standing-at (turn c) l e)
+      (λ h. is-turned (omega arith) x h none-yet)
+      (λ y. go-on (record { not-given = x; not-turned = y })))
+
+  place-left : (r : List ℕ) (k : ℕ) → k ≤ length s → drop k s ≡ r → IsPlace turn k c s (placeFrom turn k c r)
+  place-left [] k l e = by-start nowhere l e (place-nowhere (omega (arith, length-drop k s, ap length e)))
+  place-left (b ∷ r) k l e =
+      let m : suc k ≤ length s = omega (arith, length-drop k s, ap length e) in
+      let d : drop (suc k) s ≡ r = rw (← add-one, ← drop-drop 1 k s, e) in
+      by-start (placeFrom turn (suc k) c r) l e (λ n. place-later n (place-left r (suc k) m d))
+
+pub place-from : (turn : List ℕ → List ℕ) (k : ℕ) (c s : List ℕ) → k ≤ length s
+    → IsPlace turn k c s (placeFrom turn k c (drop k s))
+place-from turn k c s l = place-left turn c s (drop k s) k l refl
+
+pub finds-ours : (turn : List ℕ → List ℕ) → Finds turn (placeOf turn)
+finds-ours turn c s = place-from turn 0 c s (omega arith)
+
+-- No freedom: two smallest starts are one, and at one start the way is settled.
+-- i is the smallest start from k on at which some way stands
+record First (turn : List ℕ → List ℕ) (k : ℕ) (c s : List ℕ) (i : ℕ) : Type 0 where
+  from-on : k ≤ i
+  some : Neither turn c s i → ⊥
+  none-before : NoneBefore turn k c s i
+
+module _ {turn : List ℕ → List ℕ} {k : ℕ} {c s : List ℕ} where
+  first-given : {i : ℕ} → k ≤ i → StandsAt c s i → NoneBefore turn k c s i → First turn k c s i
+  first-given l h n = record { from-on = l; some = λ x. x .not-given h; none-before = n }
+
+  first-turned : {i : ℕ} → k ≤ i → StandsAt (turn c) s i → NoneBefore turn k c s i → First turn k c s i
+  first-turned l h n = record { from-on = l; some = λ x. x .not-turned h; none-before = n }
+
+  no-later : {i j : ℕ} → First turn k c s i → First turn k c s j → j ≤ i
+  no-later {i} {j} a b = stable (is-le j i) (λ m. a .some (b .none-before i (a .from-on) (omega arith)))
+
+  one-start : {i j : ℕ} → First turn k c s i → First turn k c s j → i ≡ j
+  one-start a b = le-antisymm (no-later b a) (no-later a b)
+
+  one-way : {i j : ℕ} → First turn k c s i → First turn k c s j → StandsAt c s i → (StandsAt c s j → ⊥) → ⊥
+  one-way a b h x = x (subst (StandsAt c s) (one-start a b) h)
+
+  pub place-one : {p q : Place} → IsPlace turn k c s p → IsPlace turn k c s q → p ≡ q
+  place-one (is-given l h n) (is-given m g o) = ap given-at (one-start (first-given l h n) (first-given m g o))
+  place-one (is-given l h n) (is-turned m x g o) = absurd (one-way (first-given l h n) (first-turned m g o) h x)
+  place-one (is-given l h n) (is-nowhere o) = absurd (o _ l .not-given h)
+  place-one (is-turned l x h n) (is-given m g o) = absurd (one-way (first-given m g o) (first-turned l h n) g x)
+  place-one (is-turned l x h n) (is-turned m y g o) = ap turned-at (one-start (first-turned l h n) (first-turned m g o))
+  place-one (is-turned l x h n) (is-nowhere o) = absurd (o _ l .not-turned h)
+  place-one (is-nowhere n) (is-given m g o) = absurd (n _ m .not-given g)
+  place-one (is-nowhere n) (is-turned m x g o) = absurd (n _ m .not-turned g)
+  place-one (is-nowhere n) (is-nowhere o) = refl
+
+pub finds-only : {turn : List ℕ → List ℕ} (find : List ℕ → List ℕ → Place) → Finds turn find → (c s : List ℕ)
+    → find c s ≡ placeOf turn c s
+finds-only {turn} find h c s = place-one (h c s) (finds-ours turn c s)
+
+-- A word has a place exactly if it stands some way.
+place-found : {turn : List ℕ → List ℕ} {c s : List ℕ} {p : Place} → IsPlace turn 0 c s p
+    → Decides (StandsSomeWay turn c s) (found p)
+place-found (is-given l h n) = yes (inl (h .stands))
+place-found (is-turned l x h n) = yes (inr (h .stands))
+place-found (is-nowhere n) =
+    no (elim [
+      | inl h ↦ n (length (h .before)) (omega arith) .not-given (record { stands = h; start = refl })
+      | inr h ↦ n (length (h .before)) (omega arith) .not-turned (record { stands = h; start = refl })
+    ])
+
+pub found-exactly : (turn : List ℕ → List ℕ) (c s : List ℕ)
+    → Decides (StandsSomeWay turn c s) (found (placeOf turn c s))
+found-exactly turn c s = place-found (finds-ours turn c s)
