@@ -21,3 +21,5 @@ pub mod Search
 pub mod Ties
 pub mod Rounds
 pub mod Order
+-- The claim leaves no choice.
+pub mod Claims

@@ -1,6 +1,5 @@
 -- The order of faces: what is read from the joins is the piece that holds face 0.
 use mathlib.Core.Path.{_≡_, sym, ap, subst, _∙_}
-use mathlib.Core.Logic.{_⊎_, inl, inr}
 use mathlib.Core.List.{List, [], _∷_}
 use Prim.Native.Nat.{ℕ, zero, suc, _-_, _*_, _≤_}
 use native.Mathlib.Omega.{arith}
@@ -9,14 +8,16 @@ use borrow.Author.Tests.{eq-eqb, ne-eqb}
 use Rattle.words.specs.Lists.{In}
 use Rattle.words.proofs.Turning.{by-length}
 use Rattle.joins.specs.Faces.{mirror, Join, headOf, lastOf}
-use Rattle.joins.specs.Rules.{IsPiece, Chosen, Joins}
-use Rattle.joins.specs.Rounds.{afterIn, endFrom, startFrom, pieceFrom, pieceOf, layoutOf, orderOf}
+use Rattle.joins.specs.Rules.{IsPiece, Allowed, Run}
+use Rattle.joins.specs.Rounds.{afterIn, pieceFrom, pieceOf, layoutOf, orderOf}
 use Rattle.joins.proofs.Mirrors.{mirror-mirror}
-use Rattle.joins.proofs.Pieces.{flip, Some, last-flip, in-flip, times-in}
-use Rattle.joins.proofs.Arrange.{arr-flip}
+use Rattle.joins.proofs.Pieces.{flip, Some, last-flip, in-flip}
 use Rattle.joins.proofs.Links.{Linked, Piece, piece-flip}
-use Rattle.joins.proofs.Allowed.{end-in}
-use Rattle.joins.proofs.Ruled.{piece-of, is-piece}
+use Rattle.joins.proofs.State.{State, state-arr, state-all, state-size}
+use Rattle.joins.proofs.Allowed.{end-in, Held, held}
+use Rattle.joins.proofs.Ruled.{is-piece}
+use Rattle.joins.proofs.Runs.{all-allowed, reached}
+use Rattle.joins.proofs.Rounds.{all-largest, joins-ours}
 
 read-stop : (n f : ℕ) (js : List Join) → afterIn f js ≡ 0 → pieceFrom (suc n) f js ≡ f ∷ []
 read-stop n f js e = rw (eq-eqb (afterIn f js) 0 e, pieceFrom)
@@ -42,3 +43,24 @@ read-piece n js p P l z =
     let e = end-in js (2 * n) (flip p) (mirror 0) (F .linked) (F .ends) (omega (arith, by-length mirror p)) y in
     let s = ap mirror (e ∙ last-flip p (P .some)) ∙ mirror-mirror (headOf p) in
     ap (λ (x : ℕ). pieceFrom (2 * n) x js) s ∙ read-linked js (2 * n) p (P .some) (P .linked) (P .ends) l
+
+-- the piece that our joins leave
+module _ (n : ℕ) (w : ℕ → ℕ → ℕ) (some : 1 ≤ n) where
+  r : Run (Allowed n) (layoutOf n w .joins)
+  r = all-allowed (all-largest (joins-ours n w .rounds))
+
+  pub record Ordered (p : List ℕ) : Type 0 where
+    pub piece : IsPiece (layoutOf n w .joins) p
+    pub zero-in : In 0 p
+
+  ordered : (Q : List (List ℕ)) → State n (layoutOf n w .joins) Q → Held 0 Q → Ordered (orderOf n w)
+  ordered Q i H =
+      let j = state-arr i (H .first) in
+      let P = j .pieces .0 in
+      let e = read-piece n (layoutOf n w .joins) (H .piece) P (omega (arith, state-size j)) (H .holds) in
+      rw e (record { piece = is-piece r (H .piece) P; zero-in = H .holds })
+
+  pub order-piece : Ordered (orderOf n w)
+  order-piece =
+      let R = reached (all-largest (joins-ours n w .rounds)) in
+      ordered (R .pieces) (R .state) (held 0 (R .pieces) (omega (arith, state-all (R .state) 0 some)))
