@@ -1,22 +1,20 @@
 -- The joins that are allowed are those of two pieces of the state, each as it is or flipped: the face before ends the
 -- one, the face after begins the other.
 use mathlib.Core.Path.{_≡_, refl, sym, ap, subst, _∙_}
-use mathlib.Core.Bool.{true, _&&_, not, and-eq-true-iff}
 use mathlib.Core.Logic.{_⊎_, inl, inr, _≢_}
 use mathlib.Core.List.{List, [], _∷_}
 use Prim.Native.Nat.{ℕ, zero, suc, _-_, _*_, _/_, _≤_, _<_}
 use native.Mathlib.Omega.{arith}
-use lib.Dec.{eqb}
 use lib.ListN.{length}
-use borrow.Author.Tests.{eqb-true, eqb-false, eq-eqb, ne-eqb, not-true}
+use borrow.Author.Tests.{eq-eqb, ne-eqb}
 use Rattle.words.specs.Lists.{In}
 use Rattle.words.specs.Decides.{Decides}
 use Rattle.words.proofs.Deciding.{decides-via, decides-and, decides-not, is-eq}
 use Rattle.joins.specs.Faces.{mirror, Join, join, headOf, lastOf}
-use Rattle.joins.specs.Rounds.{afterIn, endsPiece, beginsPiece, endFrom, allowed}
+use Rattle.joins.specs.Rounds.{afterIn, endFrom, allowed}
 use Rattle.joins.proofs.Sums.{sum}
 use Rattle.joins.proofs.Mirrors.{mirror-mirror}
-use Rattle.joins.proofs.Pieces.{flip, Some, head-flip, last-flip}
+use Rattle.joins.proofs.Pieces.{flip, Some, last-flip}
 use Rattle.joins.proofs.Pieces.{in-head, in-last, in-flip, timesOf, in-times, times-in}
 use Rattle.joins.proofs.Arrange.{Arr, arr-then, arr-after}
 use Rattle.joins.proofs.Links.{Linked, Piece, piece-flip}

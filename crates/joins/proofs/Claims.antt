@@ -1,9 +1,9 @@
 -- The claim on joining leaves no choice: whatever meets it makes our joins, and what is read of them is one piece.
 -- Of two joins that the rule could choose, each is as large and as low as the other, so they are the same. When two
 -- mirrored pieces remain no join is allowed, so that two runs end with the same round too.
-use mathlib.Core.Path.{_≡_, refl, sym, subst, _∙_}
-use mathlib.Core.List.{List, [], _∷_}
-use Prim.Native.Nat.{ℕ, suc, _%_, _≤_, _<_}
+use mathlib.Core.Path.{_≡_, refl, sym, subst}
+use mathlib.Core.List.{List}
+use Prim.Native.Nat.{ℕ, suc, _%_, _≤_}
 use native.Mathlib.Omega.{arith}
 use native.Mathlib.Decide.{decLe}
 use native.Mathlib.Nat.{le-antisymm}

@@ -23,3 +23,5 @@ pub mod Rounds
 pub mod Order
 -- The claim leaves no choice.
 pub mod Claims
+-- Wrong ways of joining, caught by it.
+pub mod Impostors

@@ -9,7 +9,7 @@ use native.Mathlib.Omega.{arith}
 use native.Mathlib.Decide.{ℕ-discrete}
 use lib.ListN.{length}
 use Rattle.words.specs.Lists.{In}
-use Rattle.joins.specs.Faces.{mirror, Join, join, joined, headOf, lastOf}
+use Rattle.joins.specs.Faces.{mirror, Join, joined, headOf, lastOf}
 use Rattle.joins.specs.Rules.{Joined, Chain, IsPiece, Allowed, Run, start, round}
 use Rattle.joins.specs.Rounds.{afterIn, endFrom}
 use Rattle.joins.proofs.Mirrors.{mirror-mirror}

@@ -9,7 +9,7 @@ use lib.ListN.{length}
 use Rattle.words.specs.Lists.{In}
 use Rattle.joins.specs.Faces.{mirror, Join, joined, headOf, lastOf}
 use Rattle.joins.specs.Rules.{IsPiece, Allowed, Largest, Run, start, round, Remains, Joins, along}
-use Rattle.joins.proofs.Sums.{sum, sum-turned}
+use Rattle.joins.proofs.Sums.{sum}
 use Rattle.joins.proofs.Pieces.{flip, flip-flip, head-flip, in-head, in-last, in-flip, times-in}
 use Rattle.joins.proofs.Arrange.{Arr, arr-same, arr-flip, arr-length}
 use Rattle.joins.proofs.Junctions.{Even, Monge, meet, meet-some, junctions}

@@ -5,7 +5,6 @@ use mathlib.Core.Logic.{_≢_}
 use mathlib.Core.List.{List, [], _∷_, _++_}
 use Prim.Native.Nat.{ℕ, suc, _/_, _≤_}
 use native.Mathlib.Omega.{arith}
-use native.Mathlib.Decide.{ℕ-discrete}
 use Rattle.words.specs.Lists.{In, Each}
 use Rattle.joins.specs.Faces.{mirror, Join, join, joined, headOf, lastOf}
 use Rattle.joins.specs.Rounds.{afterIn}

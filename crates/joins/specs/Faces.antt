@@ -1,5 +1,4 @@
 -- Faces, joins and pieces by number.
-use mathlib.Core.Bool.{true, false}
 use mathlib.Core.List.{List, [], _∷_}
 use Prim.Native.Nat.{ℕ, suc, _-_, _%_}
 use lib.Dec.{eqb}

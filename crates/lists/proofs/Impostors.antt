@@ -7,13 +7,11 @@ use mathlib.Core.List.{List, [], _∷_}
 use Prim.Native.Nat.{ℕ}
 use lib.Dec.{eqb, leb}
 use lib.ListN.{length, replicate}
+use Rattle.words.specs.Letters.{A}
 use Rattle.lists.specs.Runs.{codesIn, total}
 use Rattle.lists.specs.Rules.{ChecksCodes, ChecksNames}
 use Rattle.lists.specs.Fit.{all, nameOk, sumOk, allOnce, listOk, namesOk}
 use Rattle.lists.proofs.Rules.{codes-only, names-only}
-
-abbrev A : ℕ
-A = 65
 
 -- Codes: at most so many; a length's least and most; how the lengths' sum compares with the run; the last band
 abbrev listBy : ℕ → ℕ → ℕ → (ℕ → ℕ → Bool) → ℕ → List ℕ → List ℕ → Bool

@@ -1,10 +1,9 @@
 -- The tests decide the rules: each test is put together as its rule is, so the laws of deciding carry over, and refusal
 -- 12's clauses are the ways in which a rule can be broken. What passes are the runs and lengths of words that keep the
 -- rules, and no other.
-use mathlib.Core.Path.{_≡_, refl, subst}
-use mathlib.Core.Logic.{inl, inr}
+use mathlib.Core.Path.{_≡_, subst}
 use mathlib.Core.Bool.{Bool, true}
-use mathlib.Core.List.{List, [], _∷_, _++_}
+use mathlib.Core.List.{List, [], _∷_}
 use Prim.Native.Nat.{ℕ, zero, suc, _≤_}
 use native.Mathlib.Omega.{arith}
 use lib.ListN.{length, take, drop}

@@ -13,18 +13,10 @@ use Rattle.words.specs.Turn.{turned, Turns}
 use Rattle.words.specs.Stand.{begins}
 use Rattle.words.specs.Overlap.{Overlaps, overlapFrom, overlap}
 use Rattle.words.specs.Place.{Place, given-at, turned-at, nowhere, Finds, placeFrom, placeOf, found}
+use Rattle.words.specs.Letters.{A, B, C}
 use Rattle.words.proofs.Turning.{turns-only}
 use Rattle.words.proofs.Overlaps.{overlaps-only}
 use Rattle.words.proofs.Placing.{finds-only}
-
-abbrev A : ℕ
-A = 65
-
-abbrev B : ℕ
-B = 66
-
-abbrev C : ℕ
-C = 67
 
 -- Turning: a word left as it is; its first band put last, the others as they were
 abbrev unturned : List ℕ → List ℕ

@@ -15,7 +15,7 @@ use lib.Seq.{length-take-le, take-at, drop-at, drop-length}
 use Rattle.words.specs.Tests.{pick, same}
 use Rattle.words.specs.Turn.{Turning}
 use Rattle.words.specs.Stand.{Stands}
-use Rattle.words.specs.Overlap.{Shares, Longest, Overlaps, overlapFrom, overlap}
+use Rattle.words.specs.Overlap.{Shares, Overlaps, overlapFrom, overlap}
 use Rattle.words.proofs.Tests.{same-eq, eq-same}
 use Rattle.words.proofs.Standing.{Between, between}
 
@@ -24,11 +24,6 @@ shares-left h = omega (arith, simp length-append at (ap length (h .ending)), h .
 
 shares-right : {a b : List ℕ} {o : ℕ} (h : Shares a b o) → length b ≡ o + length (h .more)
 shares-right h = omega (arith, simp length-append at (ap length (h .beginning)), h .size)
-
-pub shares-rest : {a b : List ℕ} {o : ℕ} (h : Shares a b o) → take (length a - o) a ≡ h .rest
-shares-rest {a} {b} {o} h =
-    let n : length (h .rest) ≡ length a - o = omega (arith, shares-left h) in
-    ap (take (length a - o)) (h .ending) ∙ take-at (h .rest) (h .shared) (length a - o) n
 
 -- the search for it
 shares-drop : {a b : List ℕ} {o : ℕ} → Shares a b o → drop (length a - o) a ≡ take o b
@@ -107,8 +102,8 @@ overlaps-ours a b = record { shares = overlap-shares a b; most = overlap-longest
 pub overlaps-only : (w : List ℕ → List ℕ → ℕ) → Overlaps w → (a b : List ℕ) → w a b ≡ overlap a b
 overlaps-only w h a b = le-antisymm (overlap-longest a b _ (h a b .shares)) (h a b .most _ (overlap-shares a b))
 
-pub overlap-left : (a b : List ℕ) → overlap a b ≤ length a
-overlap-left a b = omega (arith, shares-left (overlap-shares a b))
+pub overlap-right : (a b : List ℕ) → overlap a b ≤ length b
+overlap-right a b = omega (arith, shares-right (overlap-shares a b))
 
 -- words turned, the other way round
 module _ {turn : List ℕ → List ℕ} (t : Turning turn) where

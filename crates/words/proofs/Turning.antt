@@ -1,6 +1,6 @@
 -- A list turned: as long as before, back again when turned twice, and the parts in the other order.
 -- It is so for every map that is its own inverse; and `turned`, by its claim, leaves no choice.
-use mathlib.Core.Path.{_≡_, refl, sym, ap, _∙_}
+use mathlib.Core.Path.{_≡_, refl, sym, _∙_}
 use mathlib.Core.List.{List, [], _∷_, _++_, append-assoc, append-nil}
 use Prim.Native.Nat.{ℕ, zero, suc, _+_, _-_, _<_}
 use native.Mathlib.Omega.{arith}
