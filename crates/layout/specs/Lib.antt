@@ -5,4 +5,5 @@ pub mod Reading
 pub mod Rules
 pub mod Layout
 pub mod Demands
+pub mod Answers
 pub mod Starred

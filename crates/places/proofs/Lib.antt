@@ -1,0 +1,3 @@
+-- The check is exact.
+pub mod Check
+pub mod Impostors

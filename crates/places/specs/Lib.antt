@@ -1,0 +1,3 @@
+-- Places of all listed codes, and the check of a supplied ribbon.
+pub mod Check
+pub mod Answers
