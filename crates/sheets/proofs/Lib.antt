@@ -1,0 +1,2 @@
+-- Document 01's worked example.
+pub mod Example

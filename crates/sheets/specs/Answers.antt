@@ -1,0 +1,36 @@
+-- What writing the sheet answers and what it leaves in the lent buffer, as functions of what is handed over, refused
+-- input too. Refusals come in the order 12, names too, 14, 13, all with row 0.
+use mathlib.Core.Bool.{true, false, _&&_, not}
+use mathlib.Core.List.{List}
+use Prim.Native.Nat.{ℕ}
+use lib.Dec.{eqb, ltb}
+use lib.ListN.{length}
+use Rattle.words.specs.Turn.{turned}
+use Rattle.lists.specs.Refusals.{falseList, stuck, shortBuffer, when, firstOf}
+use Rattle.lists.specs.Runs.{codesIn, over}
+use Rattle.lists.specs.Fit.{listOk, namesOk}
+use Rattle.layout.specs.Layout.{savedBy, isStuck}
+use Rattle.sheets.specs.Sheet.{sheetText}
+
+-- refused with a number, or written with the sheet's length and what the ribbon saves
+pub data SheetAnswer : Type 0 where
+  refused : ℕ → SheetAnswer
+  written : (bytes saved : ℕ) → SheetAnswer
+
+module _ (run ls name-run name-ls : List ℕ) where
+  abbrev pub sheetFor : List ℕ
+  sheetFor = sheetText (codesIn name-run name-ls) (codesIn run ls)
+
+  abbrev pub sheetFault : ℕ → ℕ
+  sheetFault room =
+      firstOf (when (not (listOk run ls && namesOk (length ls) name-run name-ls)) falseList)
+      (firstOf (when (isStuck turned (codesIn run ls)) stuck) (when (ltb room (length sheetFor)) shortBuffer))
+
+  abbrev pub sheetAnswer : ℕ → SheetAnswer
+  sheetAnswer room = elim (eqb (sheetFault room) 0) [
+    | true ↦ written (length sheetFor) (savedBy turned (codesIn run ls))
+    | false ↦ refused (sheetFault room)
+  ]
+
+  abbrev pub sheetLeaves : List ℕ → List ℕ
+  sheetLeaves buffer = elim (eqb (sheetFault (length buffer)) 0) [ true ↦ over sheetFor buffer | false ↦ buffer ]

@@ -1,0 +1,1 @@
+// The sheet: one row for each listed code, with its name, way, start and bands. So far the definitions.
