@@ -3,18 +3,17 @@ use mathlib.Core.Path.{_≡_, refl, sym, subst, _∙_}
 use mathlib.Core.Logic.{inl, inr}
 use mathlib.Core.Bool.{false, true≢false}
 use mathlib.Core.List.{List, [], _∷_}
-use Prim.Native.Nat.{ℕ, zero, suc, _+_, _-_, _*_, _/_, _≤_}
+use Prim.Native.Nat.{ℕ, zero, suc, _+_, _-_, _*_, _≤_}
 use native.Mathlib.Omega.{arith}
 use lib.ListN.{length}
 use Rattle.words.proofs.Deciding.{holds, fails, passes, not-lt}
 use Rattle.joins.specs.Faces.{Join, join, joined, headOf, lastOf}
 use Rattle.joins.specs.Rules.{Allowed, Largest, Chosen, Run, start, round, Remains, Joins}
 use Rattle.joins.specs.Rounds.{allowed, Best, none, best, pairs, below, bestJoin, Layout, roundsFrom, layoutOf}
-use Rattle.joins.proofs.Pieces.{times-in}
-use Rattle.joins.proofs.State.{State, state-all}
+use Rattle.joins.proofs.State.{State}
 use Rattle.joins.proofs.Allowed.{is-allowed, pair-open, pair-left, pair-right}
-use Rattle.joins.proofs.Ruled.{run-map, is-piece, open-allowed, allowed-open}
-use Rattle.joins.proofs.Runs.{all-allowed, Reached, reached}
+use Rattle.joins.proofs.Ruled.{run-map, open-allowed, allowed-open}
+use Rattle.joins.proofs.Runs.{all-allowed, Reached, reached, none-left, one-left}
 use Rattle.joins.proofs.Search.{BestIn, Searched, searched, all-pairs, only-pairs}
 use Rattle.joins.proofs.Ties.{Beats, is-better, comparison}
 
@@ -62,16 +61,11 @@ module _ (n : ℕ) (w : ℕ → ℕ → ℕ) where
         let may = passes (is-allowed n js (lastOf p) (headOf q)) (pair-open i) in
         true≢false (sym may ∙ h _ (all-pairs (2 * n) (lastOf p) (headOf q) (pair-left i) (pair-right i)))
 
-    -- when one is left, all faces are in it or mirrored in it
-    one-left : (Q : List (List ℕ)) → State n js Q → length Q ≡ 1 → Remains n js
-    one-left [] i l = absurd (omega arith)
-    one-left (p ∷ (q ∷ Q)) i l = absurd (omega arith)
-    one-left (p ∷ []) i l =
-        record {
-          p = p;
-          piece = is-piece made p (i .pieces .0);
-          every = λ f m. times-in f p (omega (arith, state-all i (f / 2) (omega arith)));
-        }
+    -- when one is left, it remains with its mirror
+    remains : (Q : List (List ℕ)) → State n js Q → length Q ≡ 1 → Remains n js
+    remains [] i l = absurd (omega arith)
+    remains (p ∷ []) i l = one-left made p i
+    remains (p ∷ (q ∷ Q)) i l = absurd (omega arith)
 
   pub record Ended (l : Layout) : Type 0 where
     pub unstuck : l .stuck ≡ false
@@ -82,7 +76,7 @@ module _ (n : ℕ) (w : ℕ → ℕ → ℕ) where
   rounds zero js r e =
       record {
         unstuck = refl;
-        joins = record { rounds = r; remains = one-left r (R r .pieces) (R r .state) (omega (arith, R r .count)) };
+        joins = record { rounds = r; remains = remains r (R r .pieces) (R r .state) (omega (arith, R r .count)) };
       }
   rounds (suc f) js r e = go (bestJoin n w js) refl (searched (comparison w) (allowed n js) tried) (rounds f)
     where
@@ -99,18 +93,7 @@ module _ (n : ℕ) (w : ℕ → ℕ → ℕ) where
 
 -- no codes: nothing is joined, and nothing is left
 pub layout-ended : (n : ℕ) (w : ℕ → ℕ → ℕ) → Ended n w (layoutOf n w)
-layout-ended zero w =
-    record {
-      unstuck = refl;
-      joins = record {
-        rounds = start;
-        remains = record {
-          p = 0 ∷ [];
-          piece = record { chain = tt; starts = λ f x. x; ends = λ g x. x };
-          every = λ f l. absurd (omega arith);
-        };
-      };
-    }
+layout-ended zero w = record { unstuck = refl; joins = record { rounds = start; remains = none-left start refl } }
 layout-ended (suc m) w =
     let n = suc m in
     rounds n w (n - 1) [] start (omega arith)

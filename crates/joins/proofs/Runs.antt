@@ -18,7 +18,7 @@ use Rattle.joins.proofs.Links.{Piece, piece-flip}
 use Rattle.joins.proofs.State.{singles, State, state-start, state-arr, state-all, state-size}
 use Rattle.joins.proofs.Step.{state-step}
 use Rattle.joins.proofs.Allowed.{Pair, open-pair, pair-open, pair-left, pair-right}
-use Rattle.joins.proofs.Ruled.{run-map, piece-of, same-piece, open-allowed, allowed-open}
+use Rattle.joins.proofs.Ruled.{run-map, piece-of, is-piece, same-piece, open-allowed, allowed-open}
 
 -- the pieces that a run has reached, from one piece a code on
 pub record Reached (n : ℕ) (w : ℕ → ℕ → ℕ) (js : List Join) : Type 0 where
@@ -125,6 +125,39 @@ module _ {n : ℕ} {js : List Join} (r : Run (Allowed n) js) (e : Remains n js) 
       go (inl c) (inr d) = mirrors (d ∙ ap flip (sym c))
       go (inr c) (inl d) = mirrors (d ∙ sym (ap flip c ∙ flip-flip (e .p)))
       go (inr c) (inr d) = A .different (c ∙ sym d)
+
+-- Never stuck: until two mirrored pieces remain, some join is allowed, if only one of overlap 0.
+nothing-joined : {js : List Join} → Run (Allowed 0) js → js ≡ []
+nothing-joined start = refl
+nothing-joined (round r c) = absurd (omega (arith, c .faces))
+
+pub none-left : {n : ℕ} {js : List Join} → Run (Allowed n) js → 0 ≡ n → Remains n js
+none-left {n} {js} r e =
+    let none : js ≡ [] = nothing-joined (subst (λ (k : ℕ). Run (Allowed k) js) (sym e) r) in
+    record { p = 0 ∷ []; piece = subst (λ (l : List Join). IsPiece l (0 ∷ [])) (sym none) lone; every = λ f l. absurd (omega arith) }
+  where
+    lone : IsPiece [] (0 ∷ [])
+    lone = record { chain = tt; starts = λ f x. x; ends = λ g x. x }
+
+pub one-left : {n : ℕ} {js : List Join} → Run (Allowed n) js → (p : List ℕ) → State n js (p ∷ []) → Remains n js
+one-left r p i =
+    record {
+      p = p;
+      piece = is-piece r p (i .pieces .0);
+      every = λ f l. times-in f p (omega (arith, state-all i (f / 2) (omega arith)));
+    }
+
+pub goes-on : {n : ℕ} {js : List Join} → Run (Allowed n) js → Remains n js ⊎ ((a : ℕ) × (b : ℕ) × Allowed n js a b)
+goes-on {n} {js} r = go (M .pieces) (M .state)
+  where
+    M : Reached n (λ a b. 0) js
+    M = reached (run-map (λ ls a b c. record { allowed = c; most = λ x y d. omega arith }) r)
+
+    go : (Q : List (List ℕ)) → State n js Q → Remains n js ⊎ ((a : ℕ) × (b : ℕ) × Allowed n js a b)
+    go [] i = inl (none-left r (state-size i))
+    go (p ∷ []) i = inl (one-left r p i)
+    go (p ∷ (q ∷ Q)) i =
+        inr (lastOf p, headOf q, open-allowed r i (lastOf p) (headOf q) (pair-left i) (pair-right i) (pair-open i))
 
 -- So one piece is reached, and every piece of the run is that one or its flip.
 record Left (n : ℕ) (w : ℕ → ℕ → ℕ) (js : List Join) : Type 0 where

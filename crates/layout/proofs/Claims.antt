@@ -21,7 +21,7 @@ use Rattle.layout.specs.Layout.{orderFor, ribbonFor, savedBy}
 use Rattle.layout.specs.Demands.{Demands}
 use Rattle.layout.specs.Starred.{ByHand, starred, Starred}
 use Rattle.layout.proofs.Dropping.{keeps-one, keeper-ours}
-use Rattle.layout.proofs.Laying.{lays-stand, lays-add, lays-twice}
+use Rattle.layout.proofs.Laying.{lays-stand, lays-add, lays-twice, never-stuck-rule}
 
 module _ (turn : List ℕ → List ℕ) where
   -- Ours meets the rules.
@@ -100,7 +100,8 @@ demands turn t cs =
       all-stand = lays-stand t ours;
       adds-up = lays-add t ours (kept turn cs) keeps;
       at-most-twice = λ rival on. lays-twice t ours (kept turn cs) rival keeps on;
-      never-stuck = never-stuck (length (kept turn cs)) (shared turn (kept turn cs));
+      never-stuck = never-stuck-rule;
+      never-found-stuck = never-stuck (length (kept turn cs)) (shared turn (kept turn cs));
     }
 
 -- The ribbons by hand: the table, with what ours gives in its place, is the table.

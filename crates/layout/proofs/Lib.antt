@@ -7,3 +7,5 @@ pub mod Rival
 pub mod Laying
 pub mod Claims
 pub mod Impostors
+pub mod Answers
+pub mod WrongCalls

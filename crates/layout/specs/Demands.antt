@@ -8,7 +8,7 @@ use Rattle.words.specs.Turn.{Turning}
 use Rattle.lists.specs.Runs.{total, lengths}
 use Rattle.joins.specs.Rules.{Chosen}
 use Rattle.layout.specs.Dropping.{kept}
-use Rattle.layout.specs.Rules.{Lays, AllStand}
+use Rattle.layout.specs.Rules.{Lays, Stuck, AllStand}
 use Rattle.layout.specs.Layout.{ribbonFor, savedBy, isStuck}
 
 pub record Laid (turn : List ℕ → List ℕ) (cs : List (List ℕ)) : Type 0 where
@@ -22,8 +22,9 @@ pub record Laid (turn : List ℕ → List ℕ) (cs : List (List ℕ)) : Type 0 w
   -- row's length plus twice the saved that we report
   pub at-most-twice : (rival : List ℕ) → AllStand turn cs rival
       → total (lengths (kept turn cs)) ≤ length rival + 2 * savedBy turn cs
-  -- no list gets stuck
-  pub never-stuck : isStuck turn cs ≡ false
+  -- no list gets stuck, by the rule and as it is computed
+  pub never-stuck : Stuck turn cs → ⊥
+  pub never-found-stuck : isStuck turn cs ≡ false
 
 -- for every list, and for every way of turning
 abbrev pub Demands : Type 0

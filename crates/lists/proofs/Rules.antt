@@ -1,18 +1,20 @@
 -- The tests decide the rules: each test is put together as its rule is, so the laws of deciding carry over, and refusal
 -- 12's clauses are the ways in which a rule can be broken. What passes are the runs and lengths of words that keep the
 -- rules, and no other.
-use mathlib.Core.Path.{_≡_, subst}
-use mathlib.Core.Bool.{Bool, true}
+use mathlib.Core.Path.{_≡_, refl, subst}
+use mathlib.Core.Logic.{_⊎_, inl, inr}
+use mathlib.Core.Bool.{Bool, true, _&&_, not}
 use mathlib.Core.List.{List, [], _∷_}
 use Prim.Native.Nat.{ℕ, zero, suc, _≤_}
 use native.Mathlib.Omega.{arith}
+use lib.Dec.{leb}
 use lib.ListN.{length, take, drop}
 use lib.Seq.{length-take-le}
 use Rattle.words.specs.Lists.{In, Each, Once}
 use Rattle.words.specs.Decides.{Decides, yes, no}
-use Rattle.words.proofs.Lists.{in-each, each-in, each-take, each-drop, each-append}
-use Rattle.words.proofs.Deciding.{holds, stable, decides-one, decides-via, decides-not, decides-and, decides-or}
-use Rattle.words.proofs.Deciding.{is-le, is-eq, is-same}
+use Rattle.words.proofs.Lists.{each-in, each-take, each-drop, each-append}
+use Rattle.words.proofs.Deciding.{holds, decides-one, decides-via, decides-not, decides-and, decides-or}
+use Rattle.words.proofs.Deciding.{is-le, is-eq, is-same, not-le}
 use Rattle.lists.specs.Runs.{codesIn, total, flat, lengths}
 use Rattle.lists.specs.Rules.{Band, CodeRule, Printed, NameRule, FitList, FitNames, ChecksCodes, ChecksNames}
 use Rattle.lists.specs.Rules.{FalseCodes, no-codes, too-many, no-length, too-long, other-sum, no-band}
@@ -25,6 +27,17 @@ pub all-each : {A : Type 0} {P : A → Type 0} {p : A → Bool} → ((x : A) →
     → Decides (Each P xs) (all p xs)
 all-each d [] = yes tt
 all-each d (x ∷ xs) = decides-and (d x) (all-each d xs)
+
+pub each-or : {A : Type 0} {P : A → Type 0} {p : A → Bool} → ((x : A) → Decides (P x) (p x)) → (xs : List A)
+    → Each P xs ⊎ ((x : A) × In x xs × (P x → ⊥))
+each-or d [] = inl tt
+each-or {A} {P} d (x ∷ xs) = go (d x) (each-or d xs)
+  where
+    go : {t : Bool} → Decides (P x) t → Each P xs ⊎ ((y : A) × In y xs × (P y → ⊥))
+        → Each P (x ∷ xs) ⊎ ((y : A) × In y (x ∷ xs) × (P y → ⊥))
+    go (yes h) (inl e) = inl (h, e)
+    go (yes h) (inr r) = inr (r .0, inr (r .1), r .2)
+    go (no n) e = inr (x, inl refl, n)
 
 -- Bands and names.
 pub is-band : (b : ℕ) → Decides (Band b) (isBand b)
@@ -55,6 +68,9 @@ once-each (n ∷ ns) = decides-and (decides-not (is-in n ns)) (once-each ns)
 abbrev LengthRule : ℕ → Type 0
 LengthRule n = (1 ≤ n) × (n ≤ 64)
 
+is-length : (n : ℕ) → Decides (LengthRule n) (leb 1 n && leb n 64)
+is-length n = decides-and (is-le 1 n) (is-le n 64)
+
 abbrev CodesTested : List ℕ → List ℕ → Type 0
 CodesTested run ls =
     ((1 ≤ length ls) × (length ls ≤ 128)) × (Each LengthRule ls × ((total ls ≡ length run) × Each Band run))
@@ -64,7 +80,7 @@ codes-tested run ls =
     decides-and
     (decides-and (is-le 1 (length ls)) (is-le (length ls) 128))
     (decides-and
-    (all-each (λ n. decides-and (is-le 1 n) (is-le n 64)) ls)
+    (all-each is-length ls)
     (decides-and (is-eq (total ls) (length run)) (all-bands run)))
 
 module _ (run ls : List ℕ) where
@@ -76,27 +92,34 @@ module _ (run ls : List ℕ) where
   not-false-codes h (other-sum x) = x (h .1 .1 .0)
   not-false-codes h (no-band b i x) = x (each-in Band run b (h .1 .1 .1) i)
 
-  no-clause-codes : (FalseCodes run ls → ⊥) → CodesTested run ls
-  no-clause-codes h = ((some, at-most), (in-each LengthRule ls sized, (adding, in-each Band run banded)))
+  -- all the rules are kept, or some clause refuses
+  bad-length : (n : ℕ) → In n ls → (LengthRule n → ⊥) → FalseCodes run ls
+  bad-length zero i x = no-length i
+  bad-length (suc n) i x = too-long (suc n) i (not-le (λ l. x (omega arith, l)))
+
+  clause-codes : CodesTested run ls ⊎ FalseCodes run ls
+  clause-codes =
+      go (is-le 1 (length ls)) (is-le (length ls) 128) (each-or is-length ls) (is-eq (total ls) (length run))
+      (each-or is-band run)
     where
-      some : 1 ≤ length ls
-      some = stable (is-le 1 (length ls)) (λ x. h (no-codes (omega arith)))
+      go : {t u v : Bool} → Decides (1 ≤ length ls) t → Decides (length ls ≤ 128) u
+          → Each LengthRule ls ⊎ ((n : ℕ) × In n ls × (LengthRule n → ⊥)) → Decides (total ls ≡ length run) v
+          → Each Band run ⊎ ((b : ℕ) × In b run × (Band b → ⊥)) → CodesTested run ls ⊎ FalseCodes run ls
+      go (no n) u l s b = inr (no-codes (omega arith))
+      go (yes t) (no n) l s b = inr (too-many (not-le n))
+      go (yes t) (yes u) (inr l) s b = inr (bad-length (l .0) (l .1) (l .2))
+      go (yes t) (yes u) (inl l) (no n) b = inr (other-sum n)
+      go (yes t) (yes u) (inl l) (yes s) (inr b) = inr (no-band (b .0) (b .1) (b .2))
+      go (yes t) (yes u) (inl l) (yes s) (inl b) = inl ((t, u), (l, (s, b)))
 
-      at-most : length ls ≤ 128
-      at-most = stable (is-le (length ls) 128) (λ x. h (too-many (omega arith)))
+  no-clause-codes : (FalseCodes run ls → ⊥) → CodesTested run ls
+  no-clause-codes h = elim clause-codes [ inl c ↦ c | inr f ↦ absurd (h f) ]
 
-      not-none : (n : ℕ) → In n ls → 1 ≤ n
-      not-none zero i = absurd (h (no-length i))
-      not-none (suc n) i = omega arith
-
-      sized : (n : ℕ) → In n ls → LengthRule n
-      sized n i = (not-none n i, stable (is-le n 64) (λ x. h (too-long n i (omega arith))))
-
-      adding : total ls ≡ length run
-      adding = stable (is-eq (total ls) (length run)) (λ x. h (other-sum x))
-
-      banded : (b : ℕ) → In b run → Band b
-      banded b i = stable (is-band b) (λ x. h (no-band b i x))
+  pub is-false-codes : Decides (FalseCodes run ls) (not (listOk run ls))
+  is-false-codes = decides-via some-clause (λ f c. not-false-codes c f) (decides-not (codes-tested run ls))
+    where
+      some-clause : (CodesTested run ls → ⊥) → FalseCodes run ls
+      some-clause n = elim clause-codes [ inl c ↦ absurd (n c) | inr f ↦ f ]
 
 pub codes-checked : ChecksCodes listOk
 codes-checked run ls = decides-via (not-false-codes run ls) (no-clause-codes run ls) (codes-tested run ls)
@@ -124,20 +147,30 @@ module _ (codes : ℕ) (run ls : List ℕ) where
   not-false-names h (no-name n i x) = x (each-in NameRule (codesIn run ls) n (h .1 .1 .0) i)
   not-false-names h (used-twice x) = x (h .1 .1 .1)
 
-  no-clause-names : (FalseNames codes run ls → ⊥) → NamesTested codes run ls
-  no-clause-names h = (one-each, (adding, (in-each NameRule (codesIn run ls) named, once)))
+  clause-names : NamesTested codes run ls ⊎ FalseNames codes run ls
+  clause-names =
+      go (is-eq (length ls) codes) (is-eq (total ls) (length run)) (each-or is-name ns) (once-each ns)
     where
-      one-each : length ls ≡ codes
-      one-each = stable (is-eq (length ls) codes) (λ x. h (other-count x))
+      ns : List (List ℕ)
+      ns = codesIn run ls
 
-      adding : total ls ≡ length run
-      adding = stable (is-eq (total ls) (length run)) (λ x. h (other-names-sum x))
+      go : {t u v : Bool} → Decides (length ls ≡ codes) t → Decides (total ls ≡ length run) u
+          → Each NameRule ns ⊎ ((n : List ℕ) × In n ns × (NameRule n → ⊥)) → Decides (Once ns) v
+          → NamesTested codes run ls ⊎ FalseNames codes run ls
+      go (no n) s e o = inr (other-count n)
+      go (yes c) (no n) e o = inr (other-names-sum n)
+      go (yes c) (yes s) (inr e) o = inr (no-name (e .0) (e .1) (e .2))
+      go (yes c) (yes s) (inl e) (no n) = inr (used-twice n)
+      go (yes c) (yes s) (inl e) (yes o) = inl (c, (s, (e, o)))
 
-      named : (n : List ℕ) → In n (codesIn run ls) → NameRule n
-      named n i = stable (is-name n) (λ x. h (no-name n i x))
+  no-clause-names : (FalseNames codes run ls → ⊥) → NamesTested codes run ls
+  no-clause-names h = elim clause-names [ inl c ↦ c | inr f ↦ absurd (h f) ]
 
-      once : Once (codesIn run ls)
-      once = stable (once-each (codesIn run ls)) (λ x. h (used-twice x))
+  pub is-false-names : Decides (FalseNames codes run ls) (not (namesOk codes run ls))
+  is-false-names = decides-via some-clause (λ f c. not-false-names c f) (decides-not (names-tested codes run ls))
+    where
+      some-clause : (NamesTested codes run ls → ⊥) → FalseNames codes run ls
+      some-clause n = elim clause-names [ inl c ↦ absurd (n c) | inr f ↦ f ]
 
 pub names-checked : ChecksNames namesOk
 names-checked codes run ls =

@@ -16,7 +16,8 @@ use Rattle.orders.specs.Files.{Orders, orders, bad}
 use Rattle.orders.specs.Grammar.{names, codes, Reads}
 use Rattle.orders.specs.Orders.{readOrders}
 use Rattle.orders.specs.HandsOn.{Lent, lent, resultOf, putInto, ReadValues}
-use Rattle.orders.specs.HandsOn.{refusal, counts, Outcome, outcome, Short}
+use Rattle.lists.specs.Outcome.{Outcome, outcome}
+use Rattle.orders.specs.HandsOn.{refusal, counts, Short}
 use Rattle.orders.specs.HandsOn.{ReadsInto, file-refused, short-buffer, filled, Serves, tooShort, outcomeFor}
 use Rattle.orders.specs.HandsOn.{readInto}
 use Rattle.orders.proofs.Reading.{reads-ours}
@@ -38,7 +39,7 @@ module _ (b : Lent) where
     r = resultOf ns cs
 
     -- by the test for 13
-    by-test : Bool → Outcome
+    by-test : Bool → Outcome ReadValues Lent
     by-test t =
         let f = when t shortBuffer in
         elim (eqb f 0) [ true ↦ outcome (counts r) (putInto r b) | false ↦ outcome (refusal f 0) b ]
@@ -70,12 +71,12 @@ pub serves-ours : Serves readInto
 serves-ours s b = answered s b (kind (reads-ours s)) (reads-ours s)
 
 -- Nothing else does.
-into-only : {s : List ℕ} {b : Lent} {o : Outcome} → ReadsInto s b o → readInto s b ≡ o
+into-only : {s : List ℕ} {b : Lent} {o : Outcome ReadValues Lent} → ReadsInto s b o → readInto s b ≡ o
 into-only {b} (file-refused {n} {l} x h) = ap (λ y. outcomeFor y b) (reads-only x) ∙ if-refused b n l h
 into-only {b} (short-buffer {ns} {cs} x h) = ap (λ y. outcomeFor y b) (reads-only x) ∙ if-short b ns cs h
 into-only {b} (filled {ns} {cs} x h) = ap (λ y. outcomeFor y b) (reads-only x) ∙ if-filled b ns cs h
 
-pub serves-only : (call : List ℕ → Lent → Outcome) → Serves call → (s : List ℕ) (b : Lent) → call s b ≡ readInto s b
+pub serves-only : (call : List ℕ → Lent → Outcome ReadValues Lent) → Serves call → (s : List ℕ) (b : Lent) → call s b ≡ readInto s b
 serves-only call h s b = sym (into-only (h s b))
 
 -- Impostors, each caught on the heading and P,A, with buffers of these sizes that hold 7s. (13 goes with no fault of
@@ -86,42 +87,42 @@ file = headed (80 ∷ 44 ∷ 65 ∷ [])
 abbrev sevens : ℕ → ℕ → Lent
 sevens n m = lent (replicate n 7) (replicate m 7) (replicate n 7) (replicate m 7)
 
-caught : (call : List ℕ → Lent → Outcome) (b : Lent) (look : Outcome → ℕ) → look (readInto file b) ≢ look (call file b)
+caught : (call : List ℕ → Lent → Outcome ReadValues Lent) (b : Lent) (look : Outcome ReadValues Lent → ℕ) → look (readInto file b) ≢ look (call file b)
     → Serves call → ⊥
 caught call b look d h = d (ap look (into-only (h file b)))
 
 abbrev answer : List ℕ → Lent → ReadValues
-answer s b = readInto s b .values
+answer s b = readInto s b .answer
 
 abbrev result : List ℕ → Lent
 result s = let x = readOrders s in resultOf (x .names) (x .codes)
 
 -- 13 before any search, where the bands of some list would not fit
-abbrev short-unread : List ℕ → Lent → Outcome
+abbrev short-unread : List ℕ → Lent → Outcome ReadValues Lent
 short-unread s b = pick (ltb (length (b .code-run)) 8192) (outcome (refusal shortBuffer 0) b) (readInto s b)
 
 pub not-short-unread : Serves short-unread → ⊥
-not-short-unread = caught short-unread (sevens 1 1) (λ o. o .values .number) (λ e. omega arith)
+not-short-unread = caught short-unread (sevens 1 1) (λ o. o .answer .number) (λ e. omega arith)
 
 -- a refused call that writes; no room for lengths
-abbrev writes-refused : List ℕ → Lent → Outcome
+abbrev writes-refused : List ℕ → Lent → Outcome ReadValues Lent
 writes-refused s b = outcome (answer s b) (putInto (result s) b)
 
 pub not-writes-refused : Serves writes-refused → ⊥
-not-writes-refused = caught writes-refused (sevens 1 0) (λ o. getD (o .buffers .code-run) 0 0) (λ e. omega arith)
+not-writes-refused = caught writes-refused (sevens 1 0) (λ o. getD (o .after .code-run) 0 0) (λ e. omega arith)
 
 -- an untouched buffer
-abbrev untouched : List ℕ → Lent → Outcome
+abbrev untouched : List ℕ → Lent → Outcome ReadValues Lent
 untouched s b = outcome (answer s b) b
 
 pub not-untouched : Serves untouched → ⊥
-not-untouched = caught untouched (sevens 1 1) (λ o. getD (o .buffers .code-run) 0 0) (λ e. omega arith)
+not-untouched = caught untouched (sevens 1 1) (λ o. getD (o .after .code-run) 0 0) (λ e. omega arith)
 
 -- a run of bands cleared past the result; room for two bands
-abbrev cleared : List ℕ → Lent → Outcome
+abbrev cleared : List ℕ → Lent → Outcome ReadValues Lent
 cleared s b =
     let zeros = lent (map (λ x. 0) (b .code-run)) (b .code-lengths) (b .name-run) (b .name-lengths) in
     outcome (answer s b) (putInto (result s) zeros)
 
 pub not-cleared : Serves cleared → ⊥
-not-cleared = caught cleared (sevens 2 1) (λ o. getD (o .buffers .code-run) 1 0) (λ e. omega arith)
+not-cleared = caught cleared (sevens 2 1) (λ o. getD (o .after .code-run) 1 0) (λ e. omega arith)

@@ -7,6 +7,7 @@ use Prim.Native.Nat.{ℕ, _<_}
 use lib.Dec.{eqb, ltb}
 use lib.ListN.{length}
 use Rattle.lists.specs.Refusals.{shortBuffer, when, firstOf}
+use Rattle.lists.specs.Outcome.{Outcome, outcome}
 use Rattle.lists.specs.Runs.{codesIn, flat, lengths, over}
 use Rattle.lists.specs.Fit.{listOk, namesOk}
 use Rattle.orders.specs.Files.{Orders, orders, bad}
@@ -56,14 +57,6 @@ counts r = record {
   names = length (r .name-run);
 }
 
--- an answer, and the buffers after the call
-pub record Outcome : Type 0 where
-  pub values : ReadValues
-  pub buffers : Lent
-
-abbrev pub outcome : ReadValues → Lent → Outcome
-outcome v b = record { values = v; buffers = b }
-
 -- 13's condition: a lent result buffer is shorter than the result
 abbrev pub Short : Lent → Lent → Type 0
 Short b r =
@@ -73,14 +66,14 @@ Short b r =
 
 -- The claim on a call that reads: the file's refusals come first, then 13 with row 0; a refused call changes no lent
 -- byte, and on success buffers past the result keep what they had.
-pub data ReadsInto (s : List ℕ) (b : Lent) : Outcome → Type 0 where
+pub data ReadsInto (s : List ℕ) (b : Lent) : Outcome ReadValues Lent → Type 0 where
   file-refused : {n l : ℕ} → Reads s (bad n l) → 0 < n → ReadsInto s b (outcome (refusal n l) b)
   short-buffer : {ns cs : List (List ℕ)} → Reads s (orders 0 0 ns cs) → Short b (resultOf ns cs)
       → ReadsInto s b (outcome (refusal shortBuffer 0) b)
   filled : {ns cs : List (List ℕ)} → Reads s (orders 0 0 ns cs) → (Short b (resultOf ns cs) → ⊥)
       → ReadsInto s b (outcome (counts (resultOf ns cs)) (putInto (resultOf ns cs) b))
 
-abbrev pub Serves : (List ℕ → Lent → Outcome) → Type 0
+abbrev pub Serves : (List ℕ → Lent → Outcome ReadValues Lent) → Type 0
 Serves call = (s : List ℕ) (b : Lent) → ReadsInto s b (call s b)
 
 -- Ours, for what the file says; an accepted file has row 0, and so has 13.
@@ -93,13 +86,13 @@ tooShort b r =
 abbrev pub readFault : Orders → Lent → ℕ
 readFault x b = firstOf (x .number) (when (tooShort b (resultOf (x .names) (x .codes))) shortBuffer)
 
-abbrev pub outcomeFor : Orders → Lent → Outcome
+abbrev pub outcomeFor : Orders → Lent → Outcome ReadValues Lent
 outcomeFor x b =
     let r = resultOf (x .names) (x .codes) in
     let f = readFault x b in
     elim (eqb f 0) [ true ↦ outcome (counts r) (putInto r b) | false ↦ outcome (refusal f (x .line)) b ]
 
-abbrev pub readInto : List ℕ → Lent → Outcome
+abbrev pub readInto : List ℕ → Lent → Outcome ReadValues Lent
 readInto s b = outcomeFor (readOrders s) b
 
 -- What reading leaves passes the later calls and spells the same codes and names.

@@ -10,10 +10,11 @@ use Rattle.words.specs.Tests.{pick}
 use Rattle.words.specs.Turn.{turned}
 use Rattle.words.specs.Place.{Place, placeOf}
 use Rattle.lists.specs.Refusals.{falseList, longRibbon, unknownColour, stuck, shortBuffer, when, firstOf}
+use Rattle.lists.specs.Outcome.{Outcome, outcome}
 use Rattle.lists.specs.Runs.{codesIn, over}
 use Rattle.lists.specs.Fit.{allBands, listOk}
 use Rattle.layout.specs.Layout.{ribbonFor, isStuck}
-use Rattle.places.specs.Check.{Missing, none-missing, missing, missingOn}
+use Rattle.places.specs.Check.{none-missing, missing, missingOn}
 
 -- refused with a number, missing the code of a number, or held with the difference
 pub data CheckAnswer : Type 0 where
@@ -31,36 +32,36 @@ abbrev pub recordsFrom : ℕ → List (List ℕ) → List ℕ → List PlaceReco
 recordsFrom i [] row = []
 recordsFrom i (c ∷ cs) row = record { code = i; place = placeOf turned c row } ∷ recordsFrom (suc i) cs row
 
+abbrev pub CheckOutcome : Type 0
+CheckOutcome = Outcome CheckAnswer (List PlaceRecord)
+
 -- a minus b, below zero where b is larger
 abbrev pub less : ℕ → ℕ → ℤ
 less a b = pick (leb b a) (pos (a - b)) (negsuc (b - a - 1))
 
 module _ (run ls row : List ℕ) where
-  -- what is found once nothing is refused for the list or the ribbon
-  abbrev pub onRow : Missing
-  onRow = missingOn turned (codesIn run ls) row
-
+  -- the refusals of a list or a ribbon
   abbrev pub rowFault : ℕ
   rowFault =
       firstOf (when (not (listOk run ls)) falseList)
       (firstOf (when (ltb 16384 (length row)) longRibbon)
       (firstOf (when (not (allBands row)) unknownColour) (when (isStuck turned (codesIn run ls)) stuck)))
 
-  abbrev pub checkAnswer : ℕ → CheckAnswer
-  checkAnswer room = elim (eqb rowFault 0) [
-    | false ↦ refused rowFault
-    | true ↦ elim onRow [
-      | missing k ↦ missing-code k
-      | none-missing ↦ elim (ltb room (length ls)) [
-        | true ↦ refused shortBuffer
-        | false ↦ held (less (length row) (length (ribbonFor turned (codesIn run ls))))
-      ]
-    ]
+  -- held with all records filled, where there is room for them
+  abbrev pub heldOutcome : List PlaceRecord → CheckOutcome
+  heldOutcome records = elim (ltb (length records) (length ls)) [
+    | true ↦ outcome (refused shortBuffer) records
+    | false ↦
+        outcome
+        (held (less (length row) (length (ribbonFor turned (codesIn run ls)))))
+        (over (recordsFrom 0 (codesIn run ls) row) records)
   ]
 
-  abbrev pub checkLeaves : List PlaceRecord → List PlaceRecord
-  checkLeaves records = elim (checkAnswer (length records)) [
-    | refused n ↦ records
-    | missing-code k ↦ records
-    | held d ↦ over (recordsFrom 0 (codesIn run ls) row) records
+  abbrev pub checkOutcome : List PlaceRecord → CheckOutcome
+  checkOutcome records = elim (eqb rowFault 0) [
+    | false ↦ outcome (refused rowFault) records
+    | true ↦ elim (missingOn turned (codesIn run ls) row) [
+      | missing k ↦ outcome (missing-code k) records
+      | none-missing ↦ heldOutcome records
+    ]
   ]

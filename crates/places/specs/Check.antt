@@ -1,10 +1,10 @@
 -- Whether every code has a place on a row, and if not, which is the lowest that has none.
 use mathlib.Core.Bool.{true, false}
-use mathlib.Core.List.{List, [], _∷_, map}
+use mathlib.Core.List.{List, [], _∷_}
 use Prim.Native.Nat.{ℕ, suc, _<_}
 use lib.ListN.{length}
 use Rattle.words.specs.Stand.{StandsSomeWay}
-use Rattle.words.specs.Place.{Place, placeOf, found}
+use Rattle.words.specs.Place.{placeOf, found}
 use Rattle.layout.specs.Dropping.{codeAt}
 use Rattle.layout.specs.Rules.{AllStand}
 
@@ -35,7 +35,3 @@ missingFrom turn i (c ∷ cs) row = elim (found (placeOf turn c row)) [
 
 abbrev pub missingOn : (List ℕ → List ℕ) → List (List ℕ) → List ℕ → Missing
 missingOn turn cs row = missingFrom turn 0 cs row
-
--- the place of each listed code, in list order, dropped ones too
-abbrev pub placesOn : (List ℕ → List ℕ) → List (List ℕ) → List ℕ → List Place
-placesOn turn cs row = map (λ (c : List ℕ). placeOf turn c row) cs

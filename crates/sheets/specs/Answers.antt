@@ -7,6 +7,7 @@ use lib.Dec.{eqb, ltb}
 use lib.ListN.{length}
 use Rattle.words.specs.Turn.{turned}
 use Rattle.lists.specs.Refusals.{falseList, stuck, shortBuffer, when, firstOf}
+use Rattle.lists.specs.Outcome.{Outcome, outcome}
 use Rattle.lists.specs.Runs.{codesIn, over}
 use Rattle.lists.specs.Fit.{listOk, namesOk}
 use Rattle.layout.specs.Layout.{savedBy, isStuck}
@@ -17,6 +18,9 @@ pub data SheetAnswer : Type 0 where
   refused : ℕ → SheetAnswer
   written : (bytes saved : ℕ) → SheetAnswer
 
+abbrev pub SheetOutcome : Type 0
+SheetOutcome = Outcome SheetAnswer (List ℕ)
+
 module _ (run ls name-run name-ls : List ℕ) where
   abbrev pub sheetFor : List ℕ
   sheetFor = sheetText (codesIn name-run name-ls) (codesIn run ls)
@@ -26,11 +30,10 @@ module _ (run ls name-run name-ls : List ℕ) where
       firstOf (when (not (listOk run ls && namesOk (length ls) name-run name-ls)) falseList)
       (firstOf (when (isStuck turned (codesIn run ls)) stuck) (when (ltb room (length sheetFor)) shortBuffer))
 
-  abbrev pub sheetAnswer : ℕ → SheetAnswer
-  sheetAnswer room = elim (eqb (sheetFault room) 0) [
-    | true ↦ written (length sheetFor) (savedBy turned (codesIn run ls))
-    | false ↦ refused (sheetFault room)
-  ]
-
-  abbrev pub sheetLeaves : List ℕ → List ℕ
-  sheetLeaves buffer = elim (eqb (sheetFault (length buffer)) 0) [ true ↦ over sheetFor buffer | false ↦ buffer ]
+  abbrev pub sheetOutcome : List ℕ → SheetOutcome
+  sheetOutcome buffer =
+      let f = sheetFault (length buffer) in
+      elim (eqb f 0) [
+        | true ↦ outcome (written (length sheetFor) (savedBy turned (codesIn run ls))) (over sheetFor buffer)
+        | false ↦ outcome (refused f) buffer
+      ]

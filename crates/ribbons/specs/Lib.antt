@@ -1,0 +1,2 @@
+-- The demands, collected.
+pub mod Demands
