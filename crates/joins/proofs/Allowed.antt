@@ -126,7 +126,8 @@ open-pair n js Q i a b la lb F = go (timesOf (b / 2) p) refl
     clash : In b p ⊎ In (mirror b) p → ⊥
     clash (inl u) = F .unclosed (end-in js (2 * n) p b (P .linked) (P .ends) (omega (arith, state-size j)) u ∙ ends-a)
     clash (inr u) =
-        F .unmirrored (sym (mirror-mirror b) ∙ ap mirror (sym (last-in js (mirror b) p (P .linked) (F .begins) u) ∙ ends-a))
+        let l = last-in js (mirror b) p (P .linked) (F .begins) u in
+        F .unmirrored (sym (mirror-mirror b) ∙ ap mirror (sym l ∙ ends-a))
 
     go : (k : ℕ) → timesOf (b / 2) p ≡ k → Pair a b Q
     go (suc k) e = absurd (clash (times-in b p (omega arith)))

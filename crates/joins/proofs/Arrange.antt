@@ -108,7 +108,9 @@ find p (a ∷ A) h = go (find p A) (equal-cases p a) (equal-cases p (flip a))
 module _ (C : List ℕ → Type 0) (flipped : (p : List ℕ) → C p → C (flip p)) where
   found-each : {p : List ℕ} {A : List (List ℕ)} → Found p A → Each C A → C p
   found-each {p} (asis X Y) h = each-in C (X ++ (p ∷ Y)) p h (in-right p X (p ∷ Y) (inl refl))
-  found-each {p} (over X Y) h = subst C (flip-flip p) (flipped (flip p) (each-in C (X ++ (flip p ∷ Y)) (flip p) h (in-right (flip p) X (flip p ∷ Y) (inl refl))))
+  found-each {p} (over X Y) h =
+      let there = in-right (flip p) X (flip p ∷ Y) (inl refl) in
+      subst C (flip-flip p) (flipped (flip p) (each-in C (X ++ (flip p ∷ Y)) (flip p) h there))
 
   each-found : (A : List (List ℕ)) → ((p : List ℕ) → 1 ≤ sum (alike p) A → C p) → Each C A
   each-found [] h = tt

@@ -58,7 +58,8 @@ module _ (w : ℕ → ℕ → ℕ) (mg : Monge w) (p q : List ℕ) (sp : Some p)
       )
 
   -- X joined to Z instead of X to q and p to Z
-  crossed : (l : List ℕ) (X Z : List (List ℕ)) (r : List ℕ) → weigh (beyond w p q) l X q ≡ 0 → weigh (beyond w p q) p Z r ≡ 0
+  crossed : (l : List ℕ) (X Z : List (List ℕ)) (r : List ℕ) → weigh (beyond w p q) l X q ≡ 0
+      → weigh (beyond w p q) p Z r ≡ 0
       → weigh (meet w) l X q + weigh (meet w) p Z r ≤ weigh (meet w) l (X ++ Z) r + meet w p q
   crossed l [] [] r hx hz = omega (arith, meet-monge w mg p q sp sq l r (omega arith) (omega arith))
   crossed l [] (z ∷ Z) r hx hz = omega (arith, meet-monge w mg p q sp sq l z (omega arith) (omega arith))
@@ -212,7 +213,8 @@ module _ (w : ℕ → ℕ → ℕ) (mi : Even w) (mg : Monge w)
   -- the arrangement the other way round, in which p stands as it is
   turned-at : (X Y : List (List ℕ)) → turnedBy flip (X ++ (flip p ∷ Y)) ≡ turnedBy flip Y ++ (p ∷ turnedBy flip X)
   turned-at X Y =
-      rw flip-flip at (by-parts flip X (flip p ∷ Y) ∙ append-assoc (turnedBy flip Y) (flip (flip p) ∷ []) (turnedBy flip X))
+      let e = append-assoc (turnedBy flip Y) (flip (flip p) ∷ []) (turnedBy flip X) in
+      rw flip-flip at (by-parts flip X (flip p ∷ Y) ∙ e)
 
   exchange-at : (A : List (List ℕ)) → Found p A → Answer A
   exchange-at A (asis X Y) a h = around X Y a h
@@ -220,11 +222,13 @@ module _ (w : ℕ → ℕ → ℕ) (mi : Even w) (mg : Monge w)
       let t = turned-at X Y in
       let A′ = turnedBy flip Y ++ (p ∷ turnedBy flip X) in
       let u : junctions w A ≡ junctions w A′ = rw t at (weigh-turn (meet w) (meet-flip w mi) [] A []) in
-      let l : weigh (beyond w p q) [] A [] ≡ weigh (beyond w p q) [] A′ [] = rw t at (weigh-turn (beyond w p q) beyond-even [] A []) in
+      let o = beyond w p q in
+      let l : weigh o [] A [] ≡ weigh o [] A′ [] = rw t at (weigh-turn o beyond-even [] A []) in
       let r : Arr A A′ = record { sums = λ v e. sym (sum-turned v flip e A) ∙ ap (sum v) t } in
       let n = around (turnedBy flip Y) (turnedBy flip X) (arr-then a r) (sym l ∙ h) in
       record { to = n .to; arranged = n .arranged; close = omega (arith, n .close) }
 
-  pub exchange : (A : List (List ℕ)) → Arr (p ∷ (q ∷ Q)) A → weigh (beyond w p q) [] A [] ≡ 0 → Near w (2 * meet w p q) ((p ++ q) ∷ Q) A
+  pub exchange : (A : List (List ℕ)) → Arr (p ∷ (q ∷ Q)) A → weigh (beyond w p q) [] A [] ≡ 0
+      → Near w (2 * meet w p q) ((p ++ q) ∷ Q) A
   exchange A a h =
       exchange-at A (find p A (omega (arith, a .sums (alike p) (alike-flip p), alike-self p))) a h

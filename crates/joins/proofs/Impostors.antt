@@ -1,8 +1,8 @@
 -- Wrong ways of joining, each written out and caught by the claim on joining at a named list of codes.
 -- The claim leaves no choice, so an impostor is caught where it makes other joins than ours. The rounds have their
 -- parts open: the right rounds and the wrong ones are instances of one planner, and each wrong one differs in one part.
-use mathlib.Core.Path.{_≡_, refl, sym, ap, _∙_}
-use mathlib.Core.Bool.{Bool, true, false, _&&_, not, true≢false, _||_}
+use mathlib.Core.Path.{_≡_, refl, ap}
+use mathlib.Core.Bool.{Bool, true, false, _&&_, not, _||_}
 use mathlib.Core.List.{List, [], _∷_, map}
 use Prim.Native.Nat.{ℕ, zero, suc, _+_, _-_, _*_, _%_}
 use lib.Dec.{eqb, ltb}
@@ -10,8 +10,8 @@ use lib.ListN.{length}
 use Rattle.words.specs.Tests.{same}
 use Rattle.words.specs.Turn.{turned}
 use Rattle.words.specs.Overlap.{overlap}
-use Rattle.words.specs.Letters.{A, B, C, D, E}
-use Rattle.words.proofs.Tests.{eq-same}
+use Rattle.words.specs.Texts.{text}
+use Rattle.words.proofs.Tests.{differ}
 use Rattle.joins.specs.Faces.{mirror, Join, join, joined}
 use Rattle.joins.specs.Rules.{Joiner}
 use Rattle.joins.specs.Rounds.{endsPiece, beginsPiece, endFrom, allowed, lower, key, overlapBy, better}
@@ -85,23 +85,23 @@ overlapsOf cs a b = overlap (faceOf cs a) (faceOf cs b)
 
 -- AB, CD: no two faces of different codes overlap
 abbrev apart : List (List ℕ)
-apart = (A ∷ B ∷ []) ∷ (C ∷ D ∷ []) ∷ []
+apart = text "AB" ∷ text "CD" ∷ []
 
 -- AB, CB: AB overlaps with the second one turned
 abbrev sharing : List (List ℕ)
-sharing = (A ∷ B ∷ []) ∷ (C ∷ B ∷ []) ∷ []
+sharing = text "AB" ∷ text "CB" ∷ []
 
 -- ABB, CD: ABB overlaps with itself turned
 abbrev selfSharing : List (List ℕ)
-selfSharing = (A ∷ B ∷ B ∷ []) ∷ (C ∷ D ∷ []) ∷ []
+selfSharing = text "ABB" ∷ text "CD" ∷ []
 
 -- ABC, BCD, EA: two bands from the first to the second, then one from the third to the first
 abbrev chained : List (List ℕ)
-chained = (A ∷ B ∷ C ∷ []) ∷ (B ∷ C ∷ D ∷ []) ∷ (E ∷ A ∷ []) ∷ []
+chained = text "ABC" ∷ text "BCD" ∷ text "EA" ∷ []
 
 -- ACB, BDA, CC: one band from the first to the second, and one back
 abbrev ring : List (List ℕ)
-ring = (A ∷ C ∷ B ∷ []) ∷ (B ∷ D ∷ A ∷ []) ∷ (C ∷ C ∷ []) ∷ []
+ring = text "ACB" ∷ text "BDA" ∷ text "CC" ∷ []
 
 -- Whoever makes other joins than ours at a list does not meet the claim.
 abbrev facesIn : List Join → List ℕ
@@ -116,7 +116,7 @@ oursAt cs make =
 caught : {make : ℕ → (ℕ → ℕ → ℕ) → List Join} (cs : List (List ℕ)) → oursAt cs make ≡ false → Joiner make → ⊥
 caught {make} cs e h =
     let r = ap facesIn (joiner-only make h (length cs) (overlapsOf cs)) in
-    true≢false (sym (eq-same _ _ r) ∙ e)
+    differ e r
 
 -- Which of two joins is better: by overlap, and where they overlap alike by a comparison for ties.
 abbrev ranked : (ℕ → ℕ → Bool) → (Join → Join → Bool) → (ℕ → ℕ → ℕ) → List Join → Join → Join → Bool

@@ -1,5 +1,5 @@
--- Joins made by the rules, against joins looked up: pieces by the rule are rows of linked faces, two pieces with a face in
--- common are the same, and a join is allowed exactly if the test says so.
+-- Joins made by the rules, against joins looked up: pieces by the rule are rows of linked faces, two pieces with a face
+-- in common are the same, and a join is allowed exactly if the test says so.
 -- Joins that were allowed link each face to at most one after it, so that looking one up finds the only one.
 use mathlib.Core.Path.{_≡_, refl, sym, ap, subst, _∙_}
 use mathlib.Core.Logic.{inl, inr, _≢_}

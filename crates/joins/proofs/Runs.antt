@@ -134,7 +134,11 @@ nothing-joined (round r c) = absurd (omega (arith, c .faces))
 pub none-left : {n : ℕ} {js : List Join} → Run (Allowed n) js → 0 ≡ n → Remains n js
 none-left {n} {js} r e =
     let none : js ≡ [] = nothing-joined (subst (λ (k : ℕ). Run (Allowed k) js) (sym e) r) in
-    record { p = 0 ∷ []; piece = subst (λ (l : List Join). IsPiece l (0 ∷ [])) (sym none) lone; every = λ f l. absurd (omega arith) }
+    record {
+      p = 0 ∷ [];
+      piece = subst (λ (l : List Join). IsPiece l (0 ∷ [])) (sym none) lone;
+      every = λ f l. absurd (omega arith);
+    }
   where
     lone : IsPiece [] (0 ∷ [])
     lone = record { chain = tt; starts = λ f x. x; ends = λ g x. x }
@@ -201,7 +205,8 @@ module _ {n : ℕ} {w : ℕ → ℕ → ℕ} {js : List Join} (some : 1 ≤ n) (
         go : In f (left .piece) ⊎ In (mirror f) (left .piece) → Arr (left .piece ∷ []) (p ∷ [])
         go (inl z) = as-is (same-piece js p (left .piece) f P L x z)
         go (inr z) =
-            flipped (same-piece js p (flip (left .piece)) f P (piece-flip js (left .piece) L) x (in-flip f (left .piece) z))
+            let F = piece-flip js (left .piece) L in
+            flipped (same-piece js p (flip (left .piece)) f P F x (in-flip f (left .piece) z))
 
     last : State n js (p ∷ [])
     last = state-arr (left .state) is-left

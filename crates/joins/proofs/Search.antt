@@ -100,7 +100,8 @@ below-in (suc m) a l = go (ℕ-discrete a m) (below-in m a)
 
 pair-in : (fs bs : List ℕ) (a b : ℕ) → In a fs → In b bs → In (join a b) (pairs fs bs)
 pair-in (c ∷ fs) bs a b (inl e) j =
-    subst (λ (x : ℕ). In (join a b) (map (join x) bs ++ pairs fs bs)) e (in-left _ (map (join a) bs) _ (in-map (join a) b bs j))
+    let here = in-left _ (map (join a) bs) _ (in-map (join a) b bs j) in
+    subst (λ (x : ℕ). In (join a b) (map (join x) bs ++ pairs fs bs)) e here
 pair-in (c ∷ fs) bs a b (inr i) j = in-right _ (map (join c) bs) _ (pair-in fs bs a b i j)
 
 in-pair : (fs bs : List ℕ) (j : Join) → In j (pairs fs bs) → In (j .left) fs × In (j .right) bs

@@ -45,8 +45,7 @@ module _ (a b : ℕ) (js : List Join) where
         record {
           some = h .some;
           linked = linked-kept r (h .linked);
-          starts = after-other (mirror (headOf r)) (λ e. absent a u _ first (half ∙ e)) (λ e. absent b v _ first (half ∙ e))
-              ∙ h .starts;
+          starts = after-other (mirror (headOf r)) (other a u) (other b v) ∙ h .starts;
           ends = after-other (lastOf r) (absent a u _ final) (absent b v _ final) ∙ h .ends;
         }
       where
@@ -61,6 +60,9 @@ module _ (a b : ℕ) (js : List Join) where
 
         absent : (c : ℕ) → timesOf (c / 2) r ≡ 0 → (f : ℕ) → In f r → f / 2 ≢ c / 2
         absent c none f i e = omega (arith, in-times f r i, ap (λ (z : ℕ). timesOf z r) e)
+
+        other : (c : ℕ) → timesOf (c / 2) r ≡ 0 → mirror (headOf r) / 2 ≢ c / 2
+        other c none e = absent c none (headOf r) first (half ∙ e)
 
     pieces-kept : (R : List (List ℕ)) → sum (timesOf (a / 2)) R ≡ 0 → sum (timesOf (b / 2)) R ≡ 0
         → Each (Piece js) R → Each (Piece (joined a b js)) R
@@ -107,7 +109,8 @@ module _ {K : ℕ} {js : List Join} (p q : List ℕ) {R : List (List ℕ)} (i : 
   new =
       let rest = join (mirror b) (mirror a) ∷ js in
       let other : mirror b ≢ a = λ e. state-cross i a b a-in b-in (back e) in
-      (after-yes a a b rest refl, after-not (mirror b) a b rest other ∙ after-yes (mirror b) (mirror b) (mirror a) js refl)
+      let on = after-not (mirror b) a b rest other ∙ after-yes (mirror b) (mirror b) (mirror a) js refl in
+      (after-yes a a b rest refl, on)
 
   starts-kept : afterIn (mirror (headOf p)) (joined a b js) ≡ 0
   starts-kept =

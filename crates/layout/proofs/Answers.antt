@@ -1,5 +1,5 @@
--- The claim on a call that lays out a list: ours meets it and nothing else does. Of whatever call meets it, an answer with
--- saved has demand 3, and the ribbon holds every code.
+-- The claim on a call that lays out a list: ours meets it and nothing else does. Of whatever call meets it, an answer
+-- with saved has demand 3, and the ribbon holds every code.
 use mathlib.Core.Path.{_≡_, refl, sym, ap, ap₂, subst, _∙_}
 use mathlib.Core.Bool.{Bool, true, false, not}
 use mathlib.Core.List.{List}

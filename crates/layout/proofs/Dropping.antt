@@ -105,7 +105,9 @@ module _ {Holds : List ℕ → List ℕ → Type 0} {holds : List ℕ → List �
   pub is-dropped : (cs : List (List ℕ)) (i : ℕ) → Decides (Dropped Holds cs i) (isDropped holds cs i)
   is-dropped cs i = decides-via there back (is-some-below yields (length cs))
     where
-      yields : (j : ℕ) → Decides (Outranks cs j i × Holds (codeAt cs i) (codeAt cs j)) (outranks cs j i && holds (codeAt cs i) (codeAt cs j))
+      yields : (j : ℕ)
+          → Decides (Outranks cs j i × Holds (codeAt cs i) (codeAt cs j))
+          (outranks cs j i && holds (codeAt cs i) (codeAt cs j))
       yields j =
           decides-and
           (decides-or

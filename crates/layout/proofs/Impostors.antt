@@ -1,8 +1,8 @@
 -- Wrong ways to drop codes and to read the ribbon, each written out and caught by its claim on a named list.
 -- A claim has one outcome, so an impostor is caught where what it gives is not what ours gives.
-use mathlib.Core.Path.{_≡_, refl, sym, ap, _∙_}
+use mathlib.Core.Path.{_≡_, refl, ap}
 use mathlib.Core.Logic.{inl}
-use mathlib.Core.Bool.{Bool, false, _&&_, not, true≢false, _||_}
+use mathlib.Core.Bool.{Bool, false, _&&_, not, _||_}
 use mathlib.Core.List.{List, [], _∷_, _++_, map}
 use Prim.Native.Nat.{ℕ, suc, _≤_}
 use native.Mathlib.Omega.{arith}
@@ -12,8 +12,8 @@ use borrow.Author.Tests.{eqb-false}
 use Rattle.words.specs.Tests.{same}
 use Rattle.words.specs.Turn.{turned}
 use Rattle.words.specs.Stand.{StandsSomeWay, standsIn, someWay}
-use Rattle.words.specs.Letters.{A, B, C, D}
-use Rattle.words.proofs.Tests.{eq-same}
+use Rattle.words.specs.Texts.{text}
+use Rattle.words.proofs.Tests.{differ}
 use Rattle.words.proofs.Standing.{is-some-way}
 use Rattle.lists.specs.Runs.{flat}
 use Rattle.joins.specs.Rules.{Chosen}
@@ -24,9 +24,6 @@ use Rattle.layout.specs.Rules.{Lays, AllStand, AtMostTwice}
 use Rattle.layout.specs.Layout.{orderFor, ribbonFor, savedBy}
 use Rattle.layout.proofs.Dropping.{keeper-ours, keeper-only}
 use Rattle.layout.proofs.Claims.{lays-only}
-
-differ : {x y : List ℕ} → same x y ≡ false → x ≡ y → ⊥
-differ {x} {y} n e = true≢false (sym (eq-same x y e) ∙ n)
 
 -- Dropping, where the test of code i for code j is open.
 abbrev Test : Type 0
@@ -67,11 +64,11 @@ wrong-kept keep cs n h = differ n (ap flat (keeper-only (is-some-way turned) kee
 -- AB, CD, AB: AB, CD are kept, and not CD, AB
 pub not-last-kept : Keeper (StandsSomeWay turned) (keepBy lastKept) → ⊥
 unfolding turned
-not-last-kept = wrong-kept _ ((A ∷ B ∷ []) ∷ (C ∷ D ∷ []) ∷ (A ∷ B ∷ []) ∷ []) refl
+not-last-kept = wrong-kept _ (text "AB" ∷ text "CD" ∷ text "AB" ∷ []) refl
 
 -- AB, BA: AB is kept, and neither none nor both
 abbrev turnedPair : List (List ℕ)
-turnedPair = (A ∷ B ∷ []) ∷ (B ∷ A ∷ []) ∷ []
+turnedPair = text "AB" ∷ text "BA" ∷ []
 
 pub not-both-dropped : Keeper (StandsSomeWay turned) (keepBy bothDropped) → ⊥
 unfolding turned
@@ -113,18 +110,18 @@ abbrev bestPair : List (List ℕ) → List ℕ
 bestPair cs = let ks = kept turned cs in pairOnly (orderFor turned ks) ks
 
 abbrev stock : List (List ℕ) → List ℕ
-stock cs = A ∷ B ∷ C ∷ []
+stock cs = text "ABC"
 
 abbrev nothing : List (List ℕ) → List ℕ
 nothing cs = []
 
 -- AB, CD
 abbrev apart : List (List ℕ)
-apart = (A ∷ B ∷ []) ∷ (C ∷ D ∷ []) ∷ []
+apart = text "AB" ∷ text "CD" ∷ []
 
 -- ABB, BBB, BBC
 abbrev overlapping : List (List ℕ)
-overlapping = (A ∷ B ∷ B ∷ []) ∷ (B ∷ B ∷ B ∷ []) ∷ (B ∷ B ∷ C ∷ []) ∷ []
+overlapping = text "ABB" ∷ text "BBB" ∷ text "BBC" ∷ []
 
 pub not-mirrored : Layer mirrored (savedBy turned) → ⊥
 unfolding turned
@@ -152,14 +149,16 @@ not-invented = wrong-saving _ _ apart refl
 
 -- Demand 3 catches the end-to-end layout too: it saves 0, and ABBBC is a rival of 5 bands for 9.
 abbrev row : List ℕ
-row = A ∷ B ∷ B ∷ B ∷ C ∷ []
+row = text "ABBBC"
 
 rival : AllStand turned overlapping row
-rival =
-    let abb : StandsSomeWay turned (A ∷ B ∷ B ∷ []) row = inl (record { before = []; after = B ∷ C ∷ []; parts = refl }) in
-    let bbb : StandsSomeWay turned (B ∷ B ∷ B ∷ []) row = inl (record { before = A ∷ []; after = C ∷ []; parts = refl }) in
-    let bbc : StandsSomeWay turned (B ∷ B ∷ C ∷ []) row = inl (record { before = A ∷ B ∷ []; after = []; parts = refl }) in
-    (abb, (bbb, (bbc, tt)))
+rival = (
+  inl (record { before = []; after = text "BC"; parts = refl }),
+  (
+    inl (record { before = text "A"; after = text "C"; parts = refl }),
+    (inl (record { before = text "AB"; after = []; parts = refl }), tt),
+  ),
+)
 
 pub not-twice : AtMostTwice turned overlapping 0 → ⊥
 unfolding turned

@@ -114,7 +114,8 @@ module _ {turn : List ℕ → List ℕ} (t : Turning turn) where
     pub lays-add : (ks : List (List ℕ)) → Keeps (StandsSomeWay turn) cs ks
         → length ribbon + saved ≡ total (lengths ks)
     lays-add ks k =
-        reads-add (lays .ks) (lays .joins) (lays .reads) ∙ ap (λ (l : List (List ℕ)). total (lengths l)) (keeps-one (lays .keeps) k)
+        reads-add (lays .ks) (lays .joins) (lays .reads)
+        ∙ ap (λ (l : List (List ℕ)). total (lengths l)) (keeps-one (lays .keeps) k)
 
     -- Another row on which all codes stand is no shorter than some order of the kept codes makes it, since none of these
     -- stands in another.

@@ -169,8 +169,9 @@ module _ {turn : List ℕ → List ℕ} (t : Turning turn) (ks : List (List ℕ)
       where
         whole : sum (faceLength turn ks) (faces (r .spots)) ≡ total (lengths ks)
         whole =
-            sym (alone-sum (faceLength turn ks) (faces (r .spots)))
-            ∙ sym (r .arranged .sums (sum (faceLength turn ks)) (sum-turned (faceLength turn ks) mirror (length-mirror t ks)))
+            let u = faceLength turn ks in
+            sym (alone-sum u (faces (r .spots)))
+            ∙ sym (r .arranged .sums (sum u) (sum-turned u mirror (length-mirror t ks)))
             ∙ singles-total t ks
 
         go : (L : List Spot) → Chain 0 0 L → sum (faceLength turn ks) (faces L) ≡ total (lengths ks)

@@ -8,7 +8,7 @@ use lib.Dec.{ltb}
 use lib.ListN.{length, getD}
 use Rattle.words.specs.Tests.{pick}
 use Rattle.words.specs.Turn.{turned}
-use Rattle.words.specs.Letters.{A, B}
+use Rattle.words.specs.Texts.{text}
 use Rattle.lists.specs.Refusals.{falseList, stuck, shortBuffer}
 use Rattle.lists.specs.Outcome.{outcome}
 use Rattle.lists.specs.Runs.{codesIn, over}
@@ -21,8 +21,8 @@ Call = List ℕ → List ℕ → List ℕ → LayOutcome
 
 -- the list AB, into a buffer of so many 7s
 caught : (call : Call) (buffer : List ℕ) (look : LayOutcome → ℕ)
-    → look (call (A ∷ B ∷ []) (2 ∷ []) buffer) ≢ look (layOutcome (A ∷ B ∷ []) (2 ∷ []) buffer) → LaysOut call → ⊥
-caught call buffer look d h = d (ap look (lays-out-only call h (A ∷ B ∷ []) (2 ∷ []) buffer))
+    → look (call (text "AB") (2 ∷ []) buffer) ≢ look (layOutcome (text "AB") (2 ∷ []) buffer) → LaysOut call → ⊥
+caught call buffer look d h = d (ap look (lays-out-only call h (text "AB") (2 ∷ []) buffer))
 
 abbrev number : LayOutcome → ℕ
 number o = elim (o .answer) [ refused n ↦ n | laid b s ↦ 0 ]

@@ -3,7 +3,7 @@ use mathlib.Core.List.{List, [], _∷_}
 use Prim.Native.Nat.{ℕ}
 use Rattle.words.specs.Lists.{Each}
 use Rattle.words.specs.Turn.{turned}
-use Rattle.words.specs.Letters.{A, B, C, D}
+use Rattle.words.specs.Texts.{text}
 use Rattle.joins.specs.Rules.{Chosen}
 use Rattle.layout.specs.Rules.{Lays}
 
@@ -17,17 +17,17 @@ hand c r s = record { codes = c; ribbon = r; saved = s }
 
 abbrev pub starred : List ByHand
 starred =
-    hand ((A ∷ B ∷ []) ∷ []) (A ∷ B ∷ []) 0
-    ∷ hand ((A ∷ []) ∷ (A ∷ []) ∷ []) (A ∷ []) 0
-    ∷ hand ((A ∷ B ∷ []) ∷ (B ∷ A ∷ []) ∷ []) (A ∷ B ∷ []) 0
-    ∷ hand ((A ∷ B ∷ C ∷ []) ∷ (B ∷ []) ∷ []) (A ∷ B ∷ C ∷ []) 0
-    ∷ hand ((A ∷ B ∷ []) ∷ (C ∷ D ∷ []) ∷ []) (A ∷ B ∷ C ∷ D ∷ []) 0
-    ∷ hand ((A ∷ B ∷ []) ∷ (B ∷ C ∷ []) ∷ []) (A ∷ B ∷ C ∷ []) 1
-    ∷ hand ((A ∷ B ∷ []) ∷ (C ∷ A ∷ []) ∷ []) (C ∷ A ∷ B ∷ []) 1
-    ∷ hand ((A ∷ B ∷ A ∷ []) ∷ (A ∷ C ∷ A ∷ []) ∷ []) (A ∷ B ∷ A ∷ C ∷ A ∷ []) 1
-    ∷ hand ((A ∷ B ∷ B ∷ []) ∷ (B ∷ B ∷ B ∷ []) ∷ (B ∷ B ∷ C ∷ []) ∷ []) (A ∷ B ∷ B ∷ B ∷ C ∷ []) 4
-    ∷ hand ((A ∷ B ∷ B ∷ []) ∷ (B ∷ B ∷ C ∷ []) ∷ (B ∷ B ∷ B ∷ []) ∷ []) (B ∷ B ∷ B ∷ A ∷ B ∷ B ∷ C ∷ []) 2
-    ∷ hand ((A ∷ A ∷ B ∷ B ∷ []) ∷ (A ∷ A ∷ A ∷ C ∷ []) ∷ (A ∷ B ∷ B ∷ B ∷ []) ∷ []) (C ∷ A ∷ A ∷ A ∷ B ∷ B ∷ B ∷ []) 5
+    hand (text "AB" ∷ []) (text "AB") 0
+    ∷ hand (text "A" ∷ text "A" ∷ []) (text "A") 0
+    ∷ hand (text "AB" ∷ text "BA" ∷ []) (text "AB") 0
+    ∷ hand (text "ABC" ∷ text "B" ∷ []) (text "ABC") 0
+    ∷ hand (text "AB" ∷ text "CD" ∷ []) (text "ABCD") 0
+    ∷ hand (text "AB" ∷ text "BC" ∷ []) (text "ABC") 1
+    ∷ hand (text "AB" ∷ text "CA" ∷ []) (text "CAB") 1
+    ∷ hand (text "ABA" ∷ text "ACA" ∷ []) (text "ABACA") 1
+    ∷ hand (text "ABB" ∷ text "BBB" ∷ text "BBC" ∷ []) (text "ABBBC") 4
+    ∷ hand (text "ABB" ∷ text "BBC" ∷ text "BBB" ∷ []) (text "BBBABBC") 2
+    ∷ hand (text "AABB" ∷ text "AAAC" ∷ text "ABBB" ∷ []) (text "CAAABBB") 5
     ∷ []
 
 abbrev pub Starred : Type 0

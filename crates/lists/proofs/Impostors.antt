@@ -7,7 +7,7 @@ use mathlib.Core.List.{List, [], _∷_}
 use Prim.Native.Nat.{ℕ}
 use lib.Dec.{eqb, leb}
 use lib.ListN.{length, replicate}
-use Rattle.words.specs.Letters.{A}
+use Rattle.words.specs.Texts.{text}
 use Rattle.lists.specs.Runs.{codesIn, total}
 use Rattle.lists.specs.Rules.{ChecksCodes, ChecksNames}
 use Rattle.lists.specs.Fit.{all, nameOk, sumOk, allOnce, listOk, namesOk}
@@ -32,19 +32,19 @@ module _ (ok : List ℕ → List ℕ → Bool) (run ls : List ℕ) where
 
 -- 129 codes of one band
 pub not-129-codes : ChecksCodes (listBy 129 1 64 eqb 90) → ⊥
-not-129-codes = passes-wrongly _ (replicate 129 A) (replicate 129 1) refl refl
+not-129-codes = passes-wrongly _ (replicate 129 65) (replicate 129 1) refl refl
 
 -- one code of 65 bands
 pub not-65-bands : ChecksCodes (listBy 128 1 65 eqb 90) → ⊥
-not-65-bands = passes-wrongly _ (replicate 65 A) (65 ∷ []) refl refl
+not-65-bands = passes-wrongly _ (replicate 65 65) (65 ∷ []) refl refl
 
 -- a code of no bands after A
 pub not-length-0 : ChecksCodes (listBy 128 0 64 eqb 90) → ⊥
-not-length-0 = passes-wrongly _ (A ∷ []) (1 ∷ 0 ∷ []) refl refl
+not-length-0 = passes-wrongly _ (text "A") (1 ∷ 0 ∷ []) refl refl
 
 -- a run of AA for the one code A
 pub not-lesser-sum : ChecksCodes (listBy 128 1 64 leb 90) → ⊥
-not-lesser-sum = passes-wrongly _ (A ∷ A ∷ []) (1 ∷ []) refl refl
+not-lesser-sum = passes-wrongly _ (text "AA") (1 ∷ []) refl refl
 
 -- the code [, whose byte comes after Z
 pub not-after-Z : ChecksCodes (listBy 128 1 64 eqb 91) → ⊥
@@ -52,10 +52,10 @@ not-after-Z = passes-wrongly _ (91 ∷ []) (1 ∷ []) refl refl
 
 -- every list turned away, that of the one code A too
 pub not-every-refused : ChecksCodes (listBy 0 1 64 eqb 90) → ⊥
-not-every-refused = refuses-wrongly _ (A ∷ []) (1 ∷ []) refl refl
+not-every-refused = refuses-wrongly _ (text "A") (1 ∷ []) refl refl
 
 -- the limits themselves pass: 128 codes of one band, and one code of 64 bands
-pub limits-pass : (listOk (replicate 128 A) (replicate 128 1) && listOk (replicate 64 A) (64 ∷ [])) ≡ true
+pub limits-pass : (listOk (replicate 128 65) (replicate 128 1) && listOk (replicate 64 65) (64 ∷ [])) ≡ true
 limits-pass = refl
 
 -- Names: how their number compares with that of the codes, and how often one may be used
@@ -73,8 +73,8 @@ name-passes-wrongly ok codes run ls p r h = true≢false (sym p ∙ names-only o
 
 -- two codes, both named A
 pub not-used-twice : ChecksNames (namesBy eqb (λ ns. true)) → ⊥
-not-used-twice = name-passes-wrongly _ 2 (A ∷ A ∷ []) (1 ∷ 1 ∷ []) refl refl
+not-used-twice = name-passes-wrongly _ 2 (text "AA") (1 ∷ 1 ∷ []) refl refl
 
 -- two codes and the one name A
 pub not-fewer-names : ChecksNames (namesBy leb allOnce) → ⊥
-not-fewer-names = name-passes-wrongly _ 2 (A ∷ []) (1 ∷ []) refl refl
+not-fewer-names = name-passes-wrongly _ 2 (text "A") (1 ∷ []) refl refl

@@ -76,7 +76,8 @@ into-only {b} (file-refused {n} {l} x h) = ap (λ y. outcomeFor y b) (reads-only
 into-only {b} (short-buffer {ns} {cs} x h) = ap (λ y. outcomeFor y b) (reads-only x) ∙ if-short b ns cs h
 into-only {b} (filled {ns} {cs} x h) = ap (λ y. outcomeFor y b) (reads-only x) ∙ if-filled b ns cs h
 
-pub serves-only : (call : List ℕ → Lent → Outcome ReadValues Lent) → Serves call → (s : List ℕ) (b : Lent) → call s b ≡ readInto s b
+pub serves-only : (call : List ℕ → Lent → Outcome ReadValues Lent) → Serves call → (s : List ℕ) (b : Lent)
+    → call s b ≡ readInto s b
 serves-only call h s b = sym (into-only (h s b))
 
 -- Impostors, each caught on the heading and P,A, with buffers of these sizes that hold 7s. (13 goes with no fault of
@@ -87,8 +88,8 @@ file = headed (80 ∷ 44 ∷ 65 ∷ [])
 abbrev sevens : ℕ → ℕ → Lent
 sevens n m = lent (replicate n 7) (replicate m 7) (replicate n 7) (replicate m 7)
 
-caught : (call : List ℕ → Lent → Outcome ReadValues Lent) (b : Lent) (look : Outcome ReadValues Lent → ℕ) → look (readInto file b) ≢ look (call file b)
-    → Serves call → ⊥
+caught : (call : List ℕ → Lent → Outcome ReadValues Lent) (b : Lent) (look : Outcome ReadValues Lent → ℕ)
+    → look (readInto file b) ≢ look (call file b) → Serves call → ⊥
 caught call b look d h = d (ap look (into-only (h file b)))
 
 abbrev answer : List ℕ → Lent → ReadValues

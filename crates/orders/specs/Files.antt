@@ -1,6 +1,7 @@
 -- What files are made of, and what reading one answers.
 use mathlib.Core.List.{List, [], _∷_, _++_}
 use Prim.Native.Nat.{ℕ}
+use Rattle.words.specs.Texts.{text}
 
 -- the bytes that RFC 4180 names
 abbrev pub quote : ℕ
@@ -21,10 +22,10 @@ lineBreak = cr ∷ (lf ∷ [])
 
 -- the fields of the heading row `name,code`
 abbrev pub wordName : List ℕ
-wordName = 110 ∷ 97 ∷ 109 ∷ 101 ∷ []
+wordName = text "name"
 
 abbrev pub wordCode : List ℕ
-wordCode = 99 ∷ 111 ∷ 100 ∷ 101 ∷ []
+wordCode = text "code"
 
 abbrev pub heading : List (List ℕ)
 heading = wordName ∷ (wordCode ∷ [])

@@ -6,7 +6,7 @@ use Prim.Native.Nat.{ℕ, suc}
 use native.Mathlib.Omega.{arith}
 use Rattle.words.specs.Turn.{turned}
 use Rattle.words.specs.Stand.{standsIn, someWay}
-use Rattle.words.specs.Letters.{A, B, C, D}
+use Rattle.words.specs.Texts.{text}
 use Rattle.words.proofs.Deciding.{decides-one}
 use Rattle.words.proofs.Standing.{is-some-way}
 use Rattle.words.proofs.Placing.{found-exactly}
@@ -60,7 +60,7 @@ fromOne = firstFrom (someWay turned) 1
 pub not-missing-at-once : Misses turned missingAtOnce → ⊥
 unfolding turned
 not-missing-at-once h =
-    let e : missing 0 ≡ none-missing = misses-only missingAtOnce h ((A ∷ B ∷ []) ∷ []) (B ∷ A ∷ []) in
+    let e : missing 0 ≡ none-missing = misses-only missingAtOnce h (text "AB" ∷ []) (text "BA") in
     let z : _≡_ {A = ℕ} 0 1 = cc in
     omega arith
 
@@ -68,7 +68,7 @@ not-missing-at-once h =
 pub not-always-held : Misses turned alwaysHeld → ⊥
 unfolding turned
 not-always-held h =
-    let e : none-missing ≡ missing 0 = misses-only alwaysHeld h ((A ∷ B ∷ []) ∷ []) [] in
+    let e : none-missing ≡ missing 0 = misses-only alwaysHeld h (text "AB" ∷ []) [] in
     let z : _≡_ {A = ℕ} 0 1 = cc in
     omega arith
 
@@ -76,7 +76,7 @@ not-always-held h =
 pub not-one-direction : Misses turned oneDirection → ⊥
 unfolding turned
 not-one-direction h =
-    let e : missing 0 ≡ none-missing = misses-only oneDirection h ((A ∷ B ∷ []) ∷ []) (B ∷ A ∷ []) in
+    let e : missing 0 ≡ none-missing = misses-only oneDirection h (text "AB" ∷ []) (text "BA") in
     let z : _≡_ {A = ℕ} 0 1 = cc in
     omega arith
 
@@ -84,7 +84,7 @@ not-one-direction h =
 pub not-last-missing : Misses turned lastMissing → ⊥
 unfolding turned
 not-last-missing h =
-    let e : missing 1 ≡ missing 0 = misses-only lastMissing h ((A ∷ B ∷ []) ∷ (C ∷ D ∷ []) ∷ []) [] in
+    let e : missing 1 ≡ missing 0 = misses-only lastMissing h (text "AB" ∷ text "CD" ∷ []) [] in
     let z : _≡_ {A = ℕ} 1 0 = cc in
     omega arith
 
@@ -92,6 +92,6 @@ not-last-missing h =
 pub not-from-one : Misses turned fromOne → ⊥
 unfolding turned
 not-from-one h =
-    let e : missing 1 ≡ missing 0 = misses-only fromOne h ((A ∷ B ∷ []) ∷ []) [] in
+    let e : missing 1 ≡ missing 0 = misses-only fromOne h (text "AB" ∷ []) [] in
     let z : _≡_ {A = ℕ} 1 0 = cc in
     omega arith

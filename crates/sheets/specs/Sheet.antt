@@ -2,6 +2,7 @@
 use mathlib.Core.List.{List, [], _∷_, _++_}
 use Prim.Native.Nat.{ℕ}
 use lib.ListN.{length, take, drop}
+use Rattle.words.specs.Texts.{text}
 use Rattle.words.specs.Turn.{turned}
 use Rattle.words.specs.Place.{Place, given-at, turned-at, nowhere, placeOf}
 use Rattle.orders.specs.Files.{comma, lineBreak}
@@ -15,21 +16,8 @@ rowText [] = lineBreak
 rowText (f ∷ []) = f ++ lineBreak
 rowText (f ∷ (g ∷ fs)) = f ++ (comma ∷ rowText (g ∷ fs))
 
--- `name`, `way`, `start`, `bands`
 abbrev pub sheetHeading : List (List ℕ)
-sheetHeading =
-    (110 ∷ 97 ∷ 109 ∷ 101 ∷ [])
-    ∷ (119 ∷ 97 ∷ 121 ∷ [])
-    ∷ (115 ∷ 116 ∷ 97 ∷ 114 ∷ 116 ∷ [])
-    ∷ (98 ∷ 97 ∷ 110 ∷ 100 ∷ 115 ∷ [])
-    ∷ []
-
--- `given` and `turned`
-abbrev pub wordGiven : List ℕ
-wordGiven = 103 ∷ 105 ∷ 118 ∷ 101 ∷ 110 ∷ []
-
-abbrev pub wordTurned : List ℕ
-wordTurned = 116 ∷ 117 ∷ 114 ∷ 110 ∷ 101 ∷ 100 ∷ []
+sheetHeading = text "name" ∷ text "way" ∷ text "start" ∷ text "bands" ∷ []
 
 -- the bands of a code of n bands as they stand on the ribbon from a start on
 abbrev pub bandsAt : List ℕ → ℕ → ℕ → List ℕ
@@ -37,8 +25,8 @@ bandsAt ribbon n start = take n (drop start ribbon)
 
 -- way, start and bands of a place; a code of the list has one, so the last case does not come up
 abbrev pub placeFields : List ℕ → ℕ → Place → List (List ℕ)
-placeFields ribbon n (given-at i) = wordGiven ∷ decimal i ∷ bandsAt ribbon n i ∷ []
-placeFields ribbon n (turned-at i) = wordTurned ∷ decimal i ∷ bandsAt ribbon n i ∷ []
+placeFields ribbon n (given-at i) = text "given" ∷ decimal i ∷ bandsAt ribbon n i ∷ []
+placeFields ribbon n (turned-at i) = text "turned" ∷ decimal i ∷ bandsAt ribbon n i ∷ []
 placeFields ribbon n nowhere = []
 
 abbrev pub codeRow : List ℕ → List ℕ → List ℕ → List ℕ

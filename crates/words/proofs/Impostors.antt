@@ -13,7 +13,8 @@ use Rattle.words.specs.Turn.{turned, Turns}
 use Rattle.words.specs.Stand.{begins}
 use Rattle.words.specs.Overlap.{Overlaps, overlapFrom, overlap}
 use Rattle.words.specs.Place.{Place, given-at, turned-at, nowhere, Finds, placeFrom, placeOf, found}
-use Rattle.words.specs.Letters.{A, B, C}
+use Rattle.words.specs.Texts.{text}
+use Rattle.words.proofs.Tests.{differ}
 use Rattle.words.proofs.Turning.{turns-only}
 use Rattle.words.proofs.Overlaps.{overlaps-only}
 use Rattle.words.proofs.Placing.{finds-only}
@@ -29,16 +30,14 @@ firstLast (b ∷ c) = c ++ (b ∷ [])
 pub not-unturned : Turns unturned → ⊥
 unfolding turned
 not-unturned h =
-    let e : A ∷ B ∷ [] ≡ B ∷ A ∷ [] = turns-only unturned h (A ∷ B ∷ []) in
-    let z : A ≡ B = cc in
-    omega arith
+    let e : text "AB" ≡ text "BA" = turns-only unturned h (text "AB") in
+    differ refl e
 
 pub not-first-last : Turns firstLast → ⊥
 unfolding turned
 not-first-last h =
-    let e : B ∷ C ∷ A ∷ [] ≡ C ∷ B ∷ A ∷ [] = turns-only firstLast h (A ∷ B ∷ C ∷ []) in
-    let z : B ≡ C = cc in
-    omega arith
+    let e : text "BCA" ≡ text "CBA" = turns-only firstLast h (text "ABC") in
+    differ refl e
 
 -- Overlaps: the first of some lengths that is shared
 abbrev firstShared : List ℕ → List ℕ → List ℕ → ℕ
@@ -78,12 +77,12 @@ longest-is-ours a b = from (shorter a b)
 
 pub not-shortest : Overlaps shortest → ⊥
 not-shortest h =
-    let e : _≡_ {A = ℕ} 1 2 = overlaps-only shortest h (B ∷ A ∷ A ∷ []) (A ∷ A ∷ B ∷ []) in
+    let e : _≡_ {A = ℕ} 1 2 = overlaps-only shortest h (text "BAA") (text "AAB") in
     omega arith
 
 pub not-no-whole : Overlaps noWhole → ⊥
 not-no-whole h =
-    let e : _≡_ {A = ℕ} 0 2 = overlaps-only noWhole h (A ∷ B ∷ []) (A ∷ B ∷ []) in
+    let e : _≡_ {A = ℕ} 0 2 = overlaps-only noWhole h (text "AB") (text "AB") in
     omega arith
 
 -- Places: what is found at a start, and which of two places is taken, this start's or a later one
@@ -144,27 +143,27 @@ smallest-is-ours c s = from 0 s
 pub not-one-direction : Finds turned oneDirection → ⊥
 unfolding turned
 not-one-direction h =
-    let e : nowhere ≡ turned-at 0 = finds-only oneDirection h (A ∷ B ∷ []) (B ∷ A ∷ []) in
+    let e : nowhere ≡ turned-at 0 = finds-only oneDirection h (text "AB") (text "BA") in
     let z : _≡_ {A = ℕ} 0 1 = cc in
     omega arith
 
 pub not-turned-before : Finds turned turnedBefore → ⊥
 unfolding turned
 not-turned-before h =
-    let e : turned-at 0 ≡ given-at 0 = finds-only turnedBefore h (A ∷ []) (A ∷ []) in
+    let e : turned-at 0 ≡ given-at 0 = finds-only turnedBefore h (text "A") (text "A") in
     let z : _≡_ {A = ℕ} 0 1 = cc in
     omega arith
 
 pub not-last-start : Finds turned lastStart → ⊥
 unfolding turned
 not-last-start h =
-    let e : given-at 1 ≡ given-at 0 = finds-only lastStart h (A ∷ []) (A ∷ A ∷ []) in
+    let e : given-at 1 ≡ given-at 0 = finds-only lastStart h (text "A") (text "AA") in
     let z : _≡_ {A = ℕ} 1 0 = cc in
     omega arith
 
 pub not-from-one : Finds turned fromOne → ⊥
 unfolding turned
 not-from-one h =
-    let e : given-at 1 ≡ given-at 0 = finds-only fromOne h (A ∷ []) (A ∷ []) in
+    let e : given-at 1 ≡ given-at 0 = finds-only fromOne h (text "A") (text "A") in
     let z : _≡_ {A = ℕ} 1 0 = cc in
     omega arith

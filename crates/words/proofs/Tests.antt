@@ -1,6 +1,6 @@
 -- The test for equal words says that they are equal.
-use mathlib.Core.Path.{_≡_, refl}
-use mathlib.Core.Bool.{Bool, true, false, _&&_}
+use mathlib.Core.Path.{_≡_, refl, sym, _∙_}
+use mathlib.Core.Bool.{Bool, true, false, _&&_, true≢false}
 use mathlib.Core.List.{List, [], _∷_}
 use Prim.Native.Nat.{ℕ}
 use lib.Dec.{eqb}
@@ -33,3 +33,6 @@ same-refl (x ∷ xs) = both (eq-eqb x x refl) (same-refl xs)
 
 pub eq-same : (x y : List ℕ) → x ≡ y → same x y ≡ true
 eq-same x y e = rw e (same-refl y)
+
+pub differ : {x y : List ℕ} → same x y ≡ false → x ≡ y → ⊥
+differ {x} {y} n e = true≢false (sym (eq-same x y e) ∙ n)

@@ -6,4 +6,4 @@ pub mod Turn
 pub mod Stand
 pub mod Overlap
 pub mod Place
-pub mod Letters
+pub mod Texts
