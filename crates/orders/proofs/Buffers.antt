@@ -3,11 +3,12 @@
 use mathlib.Core.Path.{_≡_, sym, ap, _∙_}
 use mathlib.Core.Logic.{_≢_}
 use mathlib.Core.Bool.{Bool, true, false}
-use mathlib.Core.List.{List, [], _∷_, map}
+use mathlib.Core.List.{List, map}
 use Prim.Native.Nat.{ℕ, zero, suc, _<_}
 use native.Mathlib.Omega.{arith}
 use lib.Dec.{eqb, ltb, eqb·suc-zero}
 use lib.ListN.{length, getD, replicate}
+use Rattle.words.specs.Texts.{text}
 use Rattle.words.specs.Tests.{pick}
 use Rattle.words.specs.Decides.{Decides, yes, no}
 use Rattle.words.proofs.Deciding.{decides-or, passes, refuses, is-lt}
@@ -83,7 +84,7 @@ serves-only call h s b = sym (into-only (h s b))
 -- Impostors, each caught on the heading and P,A, with buffers of these sizes that hold 7s. (13 goes with no fault of
 -- the file: a refused file has no result.)
 abbrev file : List ℕ
-file = headed (80 ∷ 44 ∷ 65 ∷ [])
+file = headed (text "P,A")
 
 abbrev sevens : ℕ → ℕ → Lent
 sevens n m = lent (replicate n 7) (replicate m 7) (replicate n 7) (replicate m 7)

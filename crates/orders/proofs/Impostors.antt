@@ -7,11 +7,12 @@ use Prim.Native.Nat.{ℕ, zero, suc, _+_, _-_, _/_, _%_}
 use native.Mathlib.Omega.{arith}
 use lib.Dec.{eqb, leb}
 use lib.ListN.{length, getD, replicate, length-replicate}
+use Rattle.words.specs.Texts.{text}
 use Rattle.words.specs.Tests.{pick}
 use Rattle.lists.specs.Refusals.{longFile, brokenRow, wrongWidth, wrongHeading, badName, noBands, longCode}
 use Rattle.lists.specs.Refusals.{unknownColour, nameTaken, listFull, emptyList}
 use Rattle.lists.specs.Fit.{isIn, allBands}
-use Rattle.orders.specs.Files.{comma, lineBreak, wordName, wordCode, Orders, orders, bad}
+use Rattle.orders.specs.Files.{Orders, orders, bad}
 use Rattle.orders.specs.Rows.{firstRow}
 use Rattle.orders.specs.Grammar.{Meets, Reads, long-file}
 use Rattle.orders.specs.Orders.{headFault, entryFault, rowFault, readOrders}
@@ -31,7 +32,7 @@ first-name x = length (getD (x .names) 0 [])
 
 -- the heading, then these bytes
 abbrev pub headed : List ℕ → List ℕ
-headed s = wordName ++ (comma ∷ (wordCode ++ (lineBreak ++ s)))
+headed s = text "name,code\r\n" ++ s
 
 -- The answer as a whole.
 
@@ -40,14 +41,14 @@ abbrev refuses-all : List ℕ → Orders
 refuses-all s = bad longFile 0
 
 pub not-refuses-all : Meets refuses-all → ⊥
-not-refuses-all = caught refuses-all (headed (80 ∷ 44 ∷ 65 ∷ [])) number (λ e. omega arith)
+not-refuses-all = caught refuses-all (headed (text "P,A")) number (λ e. omega arith)
 
 -- rows counted from 0; on P, and no code
 abbrev rows-from-0 : List ℕ → Orders
 rows-from-0 s = let x = readOrders s in orders (x .number) (x .line - 1) (x .names) (x .codes)
 
 pub not-rows-from-0 : Meets rows-from-0 → ⊥
-not-rows-from-0 = caught rows-from-0 (headed (80 ∷ 44 ∷ [])) (λ x. x .line) (λ e. omega arith)
+not-rows-from-0 = caught rows-from-0 (headed (text "P,")) (λ x. x .line) (λ e. omega arith)
 
 -- names turned round; on P,A CR LF QQ,B
 abbrev names-turned : List ℕ → Orders
@@ -55,7 +56,7 @@ names-turned s = let x = readOrders s in orders (x .number) (x .line) (reverse (
 
 pub not-names-turned : Meets names-turned → ⊥
 not-names-turned =
-    caught names-turned (headed (80 ∷ 44 ∷ 65 ∷ 13 ∷ 10 ∷ 81 ∷ 81 ∷ 44 ∷ 66 ∷ [])) first-name (λ e. omega arith)
+    caught names-turned (headed (text "P,A\r\nQQ,B")) first-name (λ e. omega arith)
 
 -- an empty list accepted; on the heading alone
 abbrev empty-accepted : List ℕ → Orders
@@ -71,7 +72,7 @@ abbrev lf-ends : List ℕ → Orders
 lf-ends = readBy (in-scan true false false)
 
 pub not-lf-ends : Meets lf-ends → ⊥
-not-lf-ends = caught lf-ends (headed (80 ∷ 44 ∷ 65 ∷ 10 ∷ 81 ∷ 44 ∷ 66 ∷ [])) number (λ e. omega arith)
+not-lf-ends = caught lf-ends (headed (text "P,A\nQ,B")) number (λ e. omega arith)
 
 -- a doubled quote kept as two; on "P""",A
 abbrev two-quotes : List ℕ → Orders
@@ -79,14 +80,14 @@ two-quotes = readBy (in-scan false true false)
 
 pub not-two-quotes : Meets two-quotes → ⊥
 not-two-quotes =
-    caught two-quotes (headed (34 ∷ 80 ∷ 34 ∷ 34 ∷ 34 ∷ 44 ∷ 65 ∷ [])) first-name (λ e. omega arith)
+    caught two-quotes (headed (text "\"P\"\"\",A")) first-name (λ e. omega arith)
 
 -- a quote accepted in an unquoted field; on P",A
 abbrev bare-quotes : List ℕ → Orders
 bare-quotes = readBy (in-scan false false true)
 
 pub not-bare-quotes : Meets bare-quotes → ⊥
-not-bare-quotes = caught bare-quotes (headed (80 ∷ 34 ∷ 44 ∷ 65 ∷ [])) number (λ e. omega arith)
+not-bare-quotes = caught bare-quotes (headed (text "P\",A")) number (λ e. omega arith)
 
 -- The table: where the test holds, y is given instead of x.
 abbrev instead : ℕ → ℕ → Bool → ℕ → ℕ
@@ -98,7 +99,7 @@ for-entry f = readBy (in-table (rowFault headFault) f false)
 -- so many rows, with names AA, AB and so on from the last row up, and the code A
 abbrev many : ℕ → List ℕ
 many zero = []
-many (suc i) = (65 + i / 16) ∷ (65 + i % 16) ∷ 44 ∷ 65 ∷ 13 ∷ 10 ∷ many i
+many (suc i) = (65 + i / 16) ∷ (65 + i % 16) ∷ text ",A\r\n" ++ many i
 
 -- the list full at code 128; on 128 codes
 abbrev full-at-128 : List ℕ → Orders
@@ -122,21 +123,21 @@ abbrev swapped-3-4 : List ℕ → Orders
 swapped-3-4 = readBy (in-table (λ r. instead wrongWidth wrongHeading true (rowFault headFault r)) entryFault false)
 
 pub not-swapped-3-4 : Meets swapped-3-4 → ⊥
-not-swapped-3-4 = caught swapped-3-4 (wordName ++ (comma ∷ (wordCode ++ (comma ∷ [])))) number (λ e. omega arith)
+not-swapped-3-4 = caught swapped-3-4 (text "name,code,") number (λ e. omega arith)
 
 -- 6 before 5; on a comma
 abbrev swapped-5-6 : List ℕ → Orders
 swapped-5-6 = for-entry (λ ns n c. instead badName noBands (eqb (length c) 0) (entryFault ns n c))
 
 pub not-swapped-5-6 : Meets swapped-5-6 → ⊥
-not-swapped-5-6 = caught swapped-5-6 (headed (44 ∷ [])) number (λ e. omega arith)
+not-swapped-5-6 = caught swapped-5-6 (headed (text ",")) number (λ e. omega arith)
 
 -- 8 before 7; on P, and 65 times 1
 abbrev swapped-7-8 : List ℕ → Orders
 swapped-7-8 = for-entry (λ ns n c. instead longCode unknownColour (not (allBands c)) (entryFault ns n c))
 
 pub not-swapped-7-8 : Meets swapped-7-8 → ⊥
-not-swapped-7-8 = caught swapped-7-8 (headed (80 ∷ 44 ∷ replicate 65 49)) number (λ e. omega arith)
+not-swapped-7-8 = caught swapped-7-8 (headed (text "P," ++ replicate 65 49)) number (λ e. omega arith)
 
 -- 9 before 8; on P,A CR LF P,1
 abbrev swapped-8-9 : List ℕ → Orders
@@ -144,21 +145,21 @@ swapped-8-9 = for-entry (λ ns n c. instead unknownColour nameTaken (isIn n ns) 
 
 pub not-swapped-8-9 : Meets swapped-8-9 → ⊥
 not-swapped-8-9 =
-    caught swapped-8-9 (headed (80 ∷ 44 ∷ 65 ∷ 13 ∷ 10 ∷ 80 ∷ 44 ∷ 49 ∷ [])) number (λ e. omega arith)
+    caught swapped-8-9 (headed (text "P,A\r\nP,1")) number (λ e. omega arith)
 
 -- 10 before 9; on 128 codes and AA,A once more
 abbrev swapped-9-10 : List ℕ → Orders
 swapped-9-10 = for-entry (λ ns n c. instead nameTaken listFull (leb 128 (length ns)) (entryFault ns n c))
 
 pub not-swapped-9-10 : Meets swapped-9-10 → ⊥
-not-swapped-9-10 = caught swapped-9-10 (headed (many 128 ++ (65 ∷ 65 ∷ 44 ∷ 65 ∷ []))) number (λ e. omega arith)
+not-swapped-9-10 = caught swapped-9-10 (headed (many 128 ++ text "AA,A")) number (λ e. omega arith)
 
 -- In two rows, a lower number in the later row; on P,1 CR LF ,A
 abbrev later-first : List ℕ → Orders
 later-first = readBy (in-table (rowFault headFault) entryFault true)
 
 pub not-later-first : Meets later-first → ⊥
-not-later-first = caught later-first (headed (80 ∷ 44 ∷ 49 ∷ 13 ∷ 10 ∷ 44 ∷ 65 ∷ [])) number (λ e. omega arith)
+not-later-first = caught later-first (headed (text "P,1\r\n,A")) number (λ e. omega arith)
 
 -- The heading before the size; on 16,385 bytes that no row has. (11 goes with no other fault: the one row is right, and
 -- a heading alone is no long file.)

@@ -7,6 +7,7 @@ use mathlib.Core.List.{List, [], _∷_, _++_}
 use Prim.Native.Nat.{ℕ}
 use native.Mathlib.Omega.{arith}
 use lib.ListN.{length}
+use Rattle.words.specs.Texts.{text}
 use Rattle.words.specs.Tests.{pick}
 use Rattle.words.specs.Lists.{Each}
 use Rattle.words.specs.Decides.{Decides, yes, no}
@@ -99,4 +100,4 @@ abbrev always-quoted : List ℕ → List ℕ
 always-quoted c = quote ∷ (doubledQuotes c ++ (quote ∷ []))
 
 pub not-always-quoted : Writes always-quoted → ⊥
-not-always-quoted = caught always-quoted (80 ∷ []) (omega arith) (λ e. omega arith)
+not-always-quoted = caught always-quoted (text "P") (omega arith) (λ e. omega arith)

@@ -8,6 +8,7 @@ use native.Mathlib.Omega.{arith}
 use lib.Dec.{eqb}
 use lib.ListN.{length, take, drop, length-append, take-append-drop}
 use lib.Seq.{take-at, drop-at}
+use Rattle.words.specs.Texts.{text}
 use Rattle.words.specs.Tests.{pick}
 use Rattle.words.specs.Decides.{Decides, yes, no}
 use Rattle.words.proofs.Deciding.{passes, refuses, is-same}
@@ -53,7 +54,7 @@ caught out s d t = d (ap length (file-only (t s)))
 
 -- none taken off; on A CR LF
 pub not-none-off : Takes (λ s. s) → ⊥
-not-none-off = caught (λ s. s) (65 ∷ lineBreak) (λ e. omega arith)
+not-none-off = caught (λ s. s) (text "A\r\n") (λ e. omega arith)
 
 -- every CR LF at the end taken off; on A CR LF CR LF
 abbrev off : ℕ → List ℕ → List ℕ
@@ -64,7 +65,7 @@ abbrev all-at-end-off : List ℕ → List ℕ
 all-at-end-off s = off (length s) s
 
 pub not-all-at-end-off : Takes all-at-end-off → ⊥
-not-all-at-end-off = caught all-at-end-off (65 ∷ (lineBreak ++ lineBreak)) (λ e. omega arith)
+not-all-at-end-off = caught all-at-end-off (text "A\r\n\r\n") (λ e. omega arith)
 
 -- every CR LF taken off; on A CR LF B
 abbrev every-off : List ℕ → List ℕ
@@ -73,4 +74,4 @@ every-off (a ∷ []) = a ∷ []
 every-off (a ∷ (b ∷ s)) = elim (eqb a cr && eqb b lf) [ true ↦ every-off s | false ↦ a ∷ every-off (b ∷ s) ]
 
 pub not-every-off : Takes every-off → ⊥
-not-every-off = caught every-off (65 ∷ (lineBreak ++ (66 ∷ []))) (λ e. omega arith)
+not-every-off = caught every-off (text "A\r\nB") (λ e. omega arith)
