@@ -2,12 +2,14 @@
 use mathlib.Core.Path.{_≡_, refl, sym, ap, subst, _∙_}
 use mathlib.Core.Logic.{inl}
 use mathlib.Core.List.{List, [], _∷_, map}
-use Prim.Native.Nat.{ℕ}
+use Prim.Native.Nat.{ℕ, _+_, _*_}
 use native.Mathlib.Omega.{arith}
 use lib.ListN.{length}
 use Rattle.words.specs.Lists.{Each}
+use Rattle.words.specs.Texts.{text}
 use Rattle.words.specs.Turn.{turned}
 use Rattle.words.proofs.Standing.{is-some-way}
+use Rattle.lists.specs.Runs.{total, lengths}
 use Rattle.joins.specs.Faces.{Join}
 use Rattle.joins.specs.Rules.{Chosen, Largest, Joins}
 use Rattle.joins.specs.Rounds.{layoutOf}
@@ -16,7 +18,7 @@ use Rattle.joins.proofs.Order.{order-piece}
 use Rattle.joins.proofs.Claims.{joins-one, piece-one}
 use Rattle.layout.specs.Dropping.{kept}
 use Rattle.layout.specs.Reading.{shared, readPiece, savedAlong}
-use Rattle.layout.specs.Rules.{Reads, Lays}
+use Rattle.layout.specs.Rules.{Reads, Lays, AllStand}
 use Rattle.layout.specs.Layout.{orderFor, ribbonFor, savedBy}
 use Rattle.layout.specs.Demands.{Demands}
 use Rattle.layout.specs.Starred.{ByHand, starred, Starred}
@@ -118,3 +120,21 @@ starred-lay = subst (Each (λ h. Lays Chosen turned (h .codes) (h .ribbon) (h .s
     each : (hs : List ByHand) → Each (λ h. Lays Chosen turned (h .codes) (h .ribbon) (h .saved)) (map ours hs)
     each [] = tt
     each (h ∷ hs) = (lays-ours turned (h .codes), each hs)
+
+-- The last but one of them meets demand 3's bound exactly: ABBBC has 5 bands for its codes' 9, and ours saves 2.
+abbrev tight : List (List ℕ)
+tight = text "ABB" ∷ text "BBC" ∷ text "BBB" ∷ []
+
+pub bound-met : AllStand turned tight (text "ABBBC")
+    × (total (lengths (kept turned tight)) ≡ length (text "ABBBC") + 2 * savedBy turned tight)
+unfolding turned
+bound-met = (
+  (
+    inl (record { before = []; after = text "BC"; parts = refl }),
+    (
+      inl (record { before = text "AB"; after = []; parts = refl }),
+      (inl (record { before = text "A"; after = text "C"; parts = refl }), tt),
+    ),
+  ),
+  refl,
+)
