@@ -3,7 +3,7 @@
 -- rules, and no other.
 use mathlib.Core.Path.{_≡_, refl, subst}
 use mathlib.Core.Logic.{_⊎_, inl, inr}
-use mathlib.Core.Bool.{Bool, true, _&&_, not}
+use mathlib.Core.Bool.{Bool, _&&_, not}
 use mathlib.Core.List.{List, [], _∷_}
 use Prim.Native.Nat.{ℕ, zero, suc, _≤_}
 use native.Mathlib.Omega.{arith}
@@ -13,7 +13,7 @@ use lib.Seq.{length-take-le}
 use Rattle.words.specs.Lists.{In, Each, Once}
 use Rattle.words.specs.Decides.{Decides, yes, no}
 use Rattle.words.proofs.Lists.{each-in, each-take, each-drop, each-append}
-use Rattle.words.proofs.Deciding.{holds, decides-one, decides-via, decides-not, decides-and, decides-or}
+use Rattle.words.proofs.Deciding.{decides-one, decides-via, decides-not, decides-and, decides-or}
 use Rattle.words.proofs.Deciding.{is-le, is-eq, is-same, not-le}
 use Rattle.lists.specs.Runs.{codesIn, total, flat, lengths}
 use Rattle.lists.specs.Rules.{Band, CodeRule, Printed, NameRule, FitList, FitNames, ChecksCodes, ChecksNames}
@@ -217,9 +217,6 @@ is-fit-list run ls = decides-via there back (codes-tested run ls)
         let banded = subst (Each Band) (f .joined) (code-bands (codesIn run ls) (f .coded)) in
         ((f .some, f .at-most), (sized, (adds-up run ls (f .joined) (f .as-long), banded)))
 
-pub list-rules : (run ls : List ℕ) → listOk run ls ≡ true → FitList run ls
-list-rules run ls = holds (is-fit-list run ls)
-
 pub is-fit-names : (codes : ℕ) (run ls : List ℕ) → Decides (FitNames codes run ls) (namesOk codes run ls)
 is-fit-names codes run ls = decides-via there back (names-tested codes run ls)
   where
@@ -235,6 +232,3 @@ is-fit-names codes run ls = decides-via there back (names-tested codes run ls)
 
     back : FitNames codes run ls → NamesTested codes run ls
     back f = (f .one-each, (adds-up run ls (f .joined) (f .as-long), (f .named, f .once)))
-
-pub names-rules : (codes : ℕ) (run ls : List ℕ) → namesOk codes run ls ≡ true → FitNames codes run ls
-names-rules codes run ls = holds (is-fit-names codes run ls)

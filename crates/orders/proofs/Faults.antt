@@ -10,13 +10,14 @@ use lib.ListN.{length, getD}
 use Rattle.words.specs.Decides.{Decides, yes, no}
 use Rattle.words.proofs.Deciding.{is-eq, not-lt}
 use Rattle.lists.specs.Refusals.{brokenRow, wrongWidth, when, firstOf}
+use Rattle.lists.proofs.Refusals.{Least}
 use Rattle.orders.specs.Rows.{Row, row, firstRow}
 use Rattle.orders.specs.Grammar.{RowAt, Broken, HeadFault, EntryFault, Lowest, RowFault, broken-row}
 use Rattle.orders.specs.Grammar.{wrong-width, in-fields}
 use Rattle.orders.specs.Orders.{headFault, entryFault, nameIn, codeIn, rowFault}
 use Rattle.orders.proofs.Scan.{scan-row}
 use Rattle.orders.proofs.Found.{found-row}
-use Rattle.orders.proofs.Table.{Least, head-range, head-least, entry-range, entry-least}
+use Rattle.orders.proofs.Table.{head-range, head-least, entry-range, entry-least}
 
 -- the grammar is not ambiguous
 same-fields : {s a b : List ℕ} {fs gs : List (List ℕ)} → RowAt s fs a → RowAt s gs b → fs ≡ gs

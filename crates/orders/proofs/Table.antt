@@ -1,8 +1,7 @@
--- The table's tests: a chain of them finds the lowest number whose condition holds.
--- Each test decides its condition, so passing it by means that its number is not the one.
+-- The table's tests of a row's two fields: each decides its number's condition, so that their chain gives the lowest.
 use mathlib.Core.Path.{_≡_, refl}
 use mathlib.Core.Logic.{_≢_}
-use mathlib.Core.Bool.{Bool, _&&_}
+use mathlib.Core.Bool.{_&&_}
 use mathlib.Core.List.{List, [], _∷_}
 use Prim.Native.Nat.{ℕ, suc, _≤_, _<_}
 use native.Mathlib.Omega.{arith}
@@ -10,41 +9,16 @@ use lib.Dec.{eqb, eqb·suc-zero}
 use lib.ListN.{length}
 use Rattle.words.specs.Tests.{same}
 use Rattle.words.specs.Lists.{In, Each}
-use Rattle.words.specs.Decides.{Decides, yes, no}
+use Rattle.words.specs.Decides.{Decides, yes}
 use Rattle.words.proofs.Deciding.{decide, decides-not, stable, decides-via, decides-and, is-le, is-lt, is-same}
-use Rattle.lists.specs.Refusals.{wrongHeading, badName, noBands, longCode, unknownColour, nameTaken, listFull, when}
-use Rattle.lists.specs.Refusals.{firstOf}
+use Rattle.lists.specs.Refusals.{wrongHeading, badName, noBands, longCode, unknownColour, nameTaken, listFull}
 use Rattle.lists.specs.Rules.{Band, NameRule}
+use Rattle.lists.proofs.Refusals.{Least, test, last-test, from-0}
 use Rattle.lists.proofs.Rules.{is-name, is-in, all-bands}
 use Rattle.orders.specs.Files.{wordName, wordCode, heading}
 use Rattle.orders.specs.Grammar.{HeadFault, wrong-heading, EntryFault, bad-name, no-bands, long-code}
 use Rattle.orders.specs.Grammar.{unknown-colour, name-taken, list-full}
 use Rattle.orders.specs.Orders.{headFault, entryFault}
-
--- e is the lowest number from n on that F has, or 0 if there is none
-pub record Least (F : ℕ → Type 0) (n e : ℕ) : Type 0 where
-  pub hit : 0 < e → F e
-  pub low : (k : ℕ) → n ≤ k → F k → (0 < e) × (e ≤ k)
-
-module _ {F : ℕ → Type 0} where
-  no-more : {n : ℕ} → ((k : ℕ) → F k → k ≤ n) → Least F (suc n) 0
-  no-more m = record { hit = λ h. absurd (omega arith); low = λ k h f. absurd (omega (arith, m k f)) }
-
-  test : {n e : ℕ} {t : Bool} → Decides (F (suc n)) t → Least F (suc (suc n)) e
-      → Least F (suc n) (firstOf (when t (suc n)) e)
-  test (yes f) l = record { hit = λ h. f; low = λ k h g. (omega arith, h) }
-  test {n} (no f) l = record { hit = l .hit; low = λ k h g. l .low k (above k h g) g }
-    where
-      above : (k : ℕ) → suc n ≤ k → F k → suc (suc n) ≤ k
-      above k h g = let ne : k ≢ suc n = λ e. f (rw e at g) in omega arith
-
-  last-test : {n : ℕ} {t : Bool} → ((k : ℕ) → F k → k ≤ suc n) → Decides (F (suc n)) t
-      → Least F (suc n) (when t (suc n))
-  last-test m (yes f) = test (yes f) (no-more m)
-  last-test m (no f) = test (no f) (no-more m)
-
-  from-0 : {n e : ℕ} → ((k : ℕ) → F k → n ≤ k) → Least F n e → Least F 0 e
-  from-0 m l = record { hit = l .hit; low = λ k h f. l .low k (m k f) f }
 
 pub is-empty : (c : List ℕ) → Decides (c ≡ []) (eqb (length c) 0)
 is-empty [] = yes refl
