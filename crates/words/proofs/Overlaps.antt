@@ -15,7 +15,7 @@ use lib.Seq.{length-take-le, take-at, drop-at, drop-length}
 use Rattle.words.specs.Tests.{pick, same}
 use Rattle.words.specs.Turn.{Turning}
 use Rattle.words.specs.Stand.{Stands}
-use Rattle.words.specs.Overlap.{Shares, Overlaps, overlapFrom, overlap}
+use Rattle.words.specs.Overlap.{Shares, Overlaps, LongestWithin, overlapFrom, overlap}
 use Rattle.words.proofs.Tests.{same-eq, eq-same}
 use Rattle.words.proofs.Standing.{Between, between}
 
@@ -54,23 +54,27 @@ module _ (a b : List ℕ) where
   miss : (o : ℕ) → shared? (suc o) ≡ false → overlapFrom (suc o) a b ≡ overlapFrom o a b
   miss o e = cc
 
-  from-shares : (n : ℕ) → n ≤ length b → Shares a b (overlapFrom n a b)
-  from-shares zero l = drop-shares a b 0 l (rw (sub-zero, drop-length))
-  from-shares (suc n) l = go (shared? (suc n)) refl (from-shares n (omega arith))
-    where
-      go : (t : Bool) → shared? (suc n) ≡ t → Shares a b (overlapFrom n a b) → Shares a b (overlapFrom (suc n) a b)
-      go true e r = rw (hit n e) (drop-shares a b (suc n) l (same-eq (drop (length a - suc n) a) (take (suc n) b) e))
-      go false e r = rw (miss n e) r
+  -- whatever is shared, the tests say so
+  shared-test : {m : ℕ} → Shares a b m → shared? m ≡ true
+  shared-test h = eq-same _ _ (shares-drop h)
 
-  from-longest : (n m : ℕ) → m ≤ n → drop (length a - m) a ≡ take m b → m ≤ overlapFrom n a b
-  from-longest zero m l e = l
-  from-longest (suc n) m l e = go (shared? (suc n)) refl (λ (h : m ≤ n). from-longest n m h e)
+  pub overlap-within : (k : ℕ) → k ≤ length b → LongestWithin k a b (overlapFrom k a b)
+  overlap-within zero l =
+      record { shares = drop-shares a b 0 l (rw (sub-zero, drop-length)); within = omega arith; most = λ m h s. h }
+  overlap-within (suc k) l = go (shared? (suc k)) refl (overlap-within k (omega arith))
     where
-      go : (t : Bool) → shared? (suc n) ≡ t → (m ≤ n → m ≤ overlapFrom n a b) → m ≤ overlapFrom (suc n) a b
-      go true t f = rw (hit n t) l
-      go false t f =
-          let ne : m ≢ suc n = λ q. true≢false (sym (eq-same _ _ (rw q at e)) ∙ t) in
-          rw (miss n t) (f (omega arith))
+      go : (t : Bool) → shared? (suc k) ≡ t → LongestWithin k a b (overlapFrom k a b)
+          → LongestWithin (suc k) a b (overlapFrom (suc k) a b)
+      go true e r =
+          let s = drop-shares a b (suc k) l (same-eq (drop (length a - suc k) a) (take (suc k) b) e) in
+          rw (hit k e) (record { shares = s; within = omega arith; most = λ m h x. h })
+      go false e r =
+          rw (miss k e) (record { shares = r .shares; within = omega (arith, r .within); most = most })
+        where
+          most : (m : ℕ) → m ≤ suc k → Shares a b m → m ≤ overlapFrom k a b
+          most m h x =
+              let ne : m ≢ suc k = λ q. true≢false (sym (shared-test (rw q at x)) ∙ e) in
+              r .most m (omega arith) x
 
 least-right : (m n : ℕ) → pick (leb m n) m n ≤ n
 least-right m n = go (leb m n) refl
@@ -83,17 +87,21 @@ least-most : (t : Bool) (k m n : ℕ) → k ≤ m → k ≤ n → k ≤ pick t m
 least-most true k m n p q = p
 least-most false k m n p q = q
 
--- the longest that they share
+-- the longest that they share: none has more bands than the shorter of the two
+shorter-within : (a b : List ℕ)
+    → LongestWithin (pick (leb (length a) (length b)) (length a) (length b)) a b (overlap a b)
+shorter-within a b =
+    overlap-within a b (pick (leb (length a) (length b)) (length a) (length b)) (least-right (length a) (length b))
+
 pub overlap-shares : (a b : List ℕ) → Shares a b (overlap a b)
-overlap-shares a b =
-    from-shares a b (pick (leb (length a) (length b)) (length a) (length b)) (least-right (length a) (length b))
+overlap-shares a b = shorter-within a b .shares
 
 pub overlap-longest : (a b : List ℕ) (m : ℕ) → Shares a b m → m ≤ overlap a b
 overlap-longest a b m h =
     let t = leb (length a) (length b) in
     let l : m ≤ length a = omega (arith, shares-left h) in
     let r : m ≤ length b = omega (arith, shares-right h) in
-    from-longest a b (pick t (length a) (length b)) m (least-most t m (length a) (length b) l r) (shares-drop h)
+    shorter-within a b .most m (least-most t m (length a) (length b) l r) h
 
 -- The claim on `overlap`: ours meets it, and nothing else does.
 pub overlaps-ours : Overlaps overlap

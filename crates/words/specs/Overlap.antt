@@ -24,7 +24,12 @@ pub record Longest (a b : List ℕ) (o : ℕ) : Type 0 where
 abbrev pub Overlaps : (List ℕ → List ℕ → ℕ) → Type 0
 Overlaps w = (a b : List ℕ) → Longest a b (w a b)
 
--- the longest of at most o bands
+-- Computed from above: the longest that is shared of at most k bands.
+pub record LongestWithin (k : ℕ) (a b : List ℕ) (o : ℕ) : Type 0 where
+  pub shares : Shares a b o
+  pub within : o ≤ k
+  pub most : (m : ℕ) → m ≤ k → Shares a b m → m ≤ o
+
 abbrev pub overlapFrom : ℕ → List ℕ → List ℕ → ℕ
 overlapFrom zero a b = 0
 overlapFrom (suc o) a b = elim (same (drop (length a - suc o) a) (take (suc o) b)) [
