@@ -12,7 +12,7 @@ use Rattle.words.specs.Turn.{turned}
 use Rattle.words.specs.Decides.{Decides, yes, no}
 use Rattle.words.proofs.Turning.{turning}
 use Rattle.words.proofs.Deciding.{passes, refuses, is-lt, not-lt}
-use Rattle.lists.specs.Refusals.{falseList, stuck, shortBuffer, when, firstOf}
+use Rattle.lists.specs.Refusals.{Refusal, whole, falseList, stuck, shortBuffer, when, firstOf}
 use Rattle.lists.specs.Outcome.{outcome}
 use Rattle.lists.specs.Runs.{codesIn, over}
 use Rattle.lists.specs.Rules.{FalseCodes}
@@ -39,7 +39,7 @@ module _ (run ls buffer : List ℕ) where
       let f = firstOf (when bad falseList) (firstOf (when st stuck) (when short shortBuffer)) in
       elim (eqb f 0) [
         | true ↦ outcome (laid (length ribbon) (savedBy turned cs)) (over ribbon buffer)
-        | false ↦ outcome (refused f) buffer
+        | false ↦ outcome (refused (whole f)) buffer
       ]
 
   -- no list gets stuck
@@ -56,7 +56,7 @@ module _ (run ls buffer : List ℕ) where
   meets (no fit) (no l) = filled fit (lays-ours turned cs) (not-lt l)
 
   -- Nothing else does: each case is the one of ours.
-  if-false : FalseCodes run ls → layOutcome run ls buffer ≡ outcome (refused falseList) buffer
+  if-false : FalseCodes run ls → layOutcome run ls buffer ≡ outcome (refused (whole falseList)) buffer
   if-false f =
       as-tested
       ∙ ap (λ (t : Bool). byTests t false (ltb (length buffer) (length ribbon))) (passes (is-false-codes run ls) f)
@@ -96,7 +96,7 @@ laid-means run ls before after bands saved h = go h refl
     given : {x y : LayOutcome} → x ≡ y → x .answer ≡ y .answer
     given e = ap (λ (o : LayOutcome). o .answer) e
 
-    never : {n : ℕ} → refused n ≡ laid bands saved → Means run ls before after bands saved
+    never : {r : Refusal} → refused r ≡ laid bands saved → Means run ls before after bands saved
     never e = let z : _≡_ {A = ℕ} 0 1 = cc in absurd (omega arith)
 
     go : {o : LayOutcome} → LaysInto run ls before o → o ≡ outcome (laid bands saved) after

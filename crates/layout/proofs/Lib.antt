@@ -9,3 +9,4 @@ pub mod Claims
 pub mod Impostors
 pub mod Answers
 pub mod WrongCalls
+pub mod Room

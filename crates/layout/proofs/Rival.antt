@@ -85,7 +85,7 @@ module _ {turn : List ℕ → List ℕ} (t : Turning turn) (ks : List (List ℕ)
             let h = stands-inside (y .stands) (x .stands) (omega arith) q in
             absurd (n (apart (code x) (code y) a b (inside x y h)))
 
-    -- x put into its sorted
+    -- x put in at its place in a sorted list
     record Put (x : Spot) (a b : ℕ) (L : List Spot) : Type 0 where
       fore : List Spot
       after : List Spot

@@ -9,7 +9,7 @@ use lib.ListN.{length, getD}
 use Rattle.words.specs.Tests.{pick}
 use Rattle.words.specs.Turn.{turned}
 use Rattle.words.specs.Texts.{text}
-use Rattle.lists.specs.Refusals.{falseList, stuck, shortBuffer}
+use Rattle.lists.specs.Refusals.{whole, falseList, stuck, shortBuffer}
 use Rattle.lists.specs.Outcome.{outcome}
 use Rattle.lists.specs.Runs.{codesIn, over}
 use Rattle.layout.specs.Layout.{ribbonFor}
@@ -19,27 +19,27 @@ use Rattle.layout.proofs.Answers.{lays-out-only}
 abbrev Call : Type 0
 Call = List ℕ → List ℕ → List ℕ → LayOutcome
 
--- the list AB, into a buffer of so many 7s
+-- the list AB, into a given buffer
 caught : (call : Call) (buffer : List ℕ) (look : LayOutcome → ℕ)
     → look (call (text "AB") (2 ∷ []) buffer) ≢ look (layOutcome (text "AB") (2 ∷ []) buffer) → LaysOut call → ⊥
 caught call buffer look d h = d (ap look (lays-out-only call h (text "AB") (2 ∷ []) buffer))
 
 abbrev number : LayOutcome → ℕ
-number o = elim (o .answer) [ refused n ↦ n | laid b s ↦ 0 ]
+number o = elim (o .answer) [ refused r ↦ r .number | laid b s ↦ 0 ]
 
 abbrev byte : ℕ → LayOutcome → ℕ
 byte i o = getD (o .after) i 0
 
--- every list turned away; stuck before any search; a short buffer where some list would not fit
+-- every list turned away; stuck before any search; 13 for every buffer under 8,192 bytes
 abbrev allTurnedAway : Call
-allTurnedAway run ls buffer = outcome (refused falseList) buffer
+allTurnedAway run ls buffer = outcome (refused (whole falseList)) buffer
 
 pub not-all-turned-away : LaysOut allTurnedAway → ⊥
 unfolding turned
 not-all-turned-away = caught allTurnedAway (7 ∷ 7 ∷ []) number (λ e. omega arith)
 
 abbrev stuckAtOnce : Call
-stuckAtOnce run ls buffer = outcome (refused stuck) buffer
+stuckAtOnce run ls buffer = outcome (refused (whole stuck)) buffer
 
 pub not-stuck-at-once : LaysOut stuckAtOnce → ⊥
 unfolding turned
@@ -47,7 +47,7 @@ not-stuck-at-once = caught stuckAtOnce (7 ∷ 7 ∷ []) number (λ e. omega arit
 
 abbrev shortAtOnce : Call
 shortAtOnce run ls buffer =
-    pick (ltb (length buffer) 8192) (outcome (refused shortBuffer) buffer) (layOutcome run ls buffer)
+    pick (ltb (length buffer) 8192) (outcome (refused (whole shortBuffer)) buffer) (layOutcome run ls buffer)
 
 pub not-short-at-once : LaysOut shortAtOnce → ⊥
 unfolding turned

@@ -7,7 +7,7 @@ use lib.Dec.{eqb, ltb}
 use lib.ListN.{length}
 use Rattle.words.specs.Turn.{turned}
 use Rattle.words.specs.Stand.{StandsSomeWay}
-use Rattle.lists.specs.Refusals.{falseList, stuck, shortBuffer, when, firstOf}
+use Rattle.lists.specs.Refusals.{Refusal, whole, falseList, stuck, shortBuffer, when, firstOf}
 use Rattle.lists.specs.Outcome.{Outcome, outcome}
 use Rattle.lists.specs.Runs.{codesIn, total, lengths, over}
 use Rattle.lists.specs.Rules.{FalseCodes}
@@ -17,9 +17,9 @@ use Rattle.layout.specs.Dropping.{Keeps}
 use Rattle.layout.specs.Rules.{Lays, Stuck, AllStand, AtMostTwice}
 use Rattle.layout.specs.Layout.{ribbonFor, savedBy, isStuck}
 
--- refused with a number, the row being 0; or laid out, with the ribbon's length and what it saves
+-- refused; or laid out, with the ribbon's length and what it saves
 pub data LayAnswer : Type 0 where
-  refused : ℕ → LayAnswer
+  refused : Refusal → LayAnswer
   laid : (bands saved : ℕ) → LayAnswer
 
 abbrev pub LayOutcome : Type 0
@@ -29,11 +29,11 @@ LayOutcome = Outcome LayAnswer (List ℕ)
 -- the buffer past the ribbon keeps what it had.
 module _ (run ls buffer : List ℕ) where
   pub data LaysInto : LayOutcome → Type 0 where
-    false-list : FalseCodes run ls → LaysInto (outcome (refused falseList) buffer)
-    no-join : (FalseCodes run ls → ⊥) → Stuck turned (codesIn run ls) → LaysInto (outcome (refused stuck) buffer)
+    false-list : FalseCodes run ls → LaysInto (outcome (refused (whole falseList)) buffer)
+    no-join : (FalseCodes run ls → ⊥) → Stuck turned (codesIn run ls) → LaysInto (outcome (refused (whole stuck)) buffer)
     short-buffer : {ribbon : List ℕ} {saved : ℕ} → (FalseCodes run ls → ⊥)
         → Lays Chosen turned (codesIn run ls) ribbon saved → length buffer < length ribbon
-        → LaysInto (outcome (refused shortBuffer) buffer)
+        → LaysInto (outcome (refused (whole shortBuffer)) buffer)
     filled : {ribbon : List ℕ} {saved : ℕ} → (FalseCodes run ls → ⊥)
         → Lays Chosen turned (codesIn run ls) ribbon saved → length ribbon ≤ length buffer
         → LaysInto (outcome (laid (length ribbon) saved) (over ribbon buffer))
@@ -54,7 +54,7 @@ layOutcome run ls buffer =
     let f = layFault run ls (length buffer) in
     elim (eqb f 0) [
       | true ↦ outcome (laid (length (ribbonFor turned cs)) (savedBy turned cs)) (over (ribbonFor turned cs) buffer)
-      | false ↦ outcome (refused f) buffer
+      | false ↦ outcome (refused (whole f)) buffer
     ]
 
 -- What an answer with a ribbon means: the ribbon is the first of the buffer's bytes, the rest is as before, and the ribbon

@@ -7,7 +7,7 @@ use lib.ListN.{length}
 use Rattle.words.specs.Tests.{same}
 use Rattle.lists.specs.Runs.{codesIn, total}
 
--- P is true of each of the list
+-- p is true of each of the list
 abbrev pub all : {A : Type 0} → (A → Bool) → List A → Bool
 all p [] = true
 all p (x ∷ xs) = p x && all p xs

@@ -49,6 +49,18 @@ stuck = 14
 abbrev pub longRibbon : ℕ
 longRibbon = 15
 
+-- A refusal carries its number and a row. The row counts from 1, the heading being row 1; it is 0 where no row is meant.
+pub record Refusal : Type 0 where
+  pub number : ℕ
+  pub row : ℕ
+
+abbrev pub refusal : ℕ → ℕ → Refusal
+refusal n r = record { number = n; row = r }
+
+-- of the whole input
+abbrev pub whole : ℕ → Refusal
+whole n = refusal n 0
+
 -- the number n under its condition, and the first of two numbers that is given
 abbrev pub when : Bool → ℕ → ℕ
 when true n = n

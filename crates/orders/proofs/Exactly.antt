@@ -29,15 +29,15 @@ pub record Accepted (s : List ℕ) (es : List Entry) : Type 0 where
 
 -- an answer that is due is a refusal, whose number is not 0, or tells what is accepted
 pub data Kind (s : List ℕ) : Orders → Type 0 where
-  refused : {n l : ℕ} → 0 < n → Kind s (bad n l)
+  unfit : {n l : ℕ} → 0 < n → Kind s (bad n l)
   tells : {es : List Entry} → Accepted s es → Kind s (orders 0 0 (names es) (codes es))
 
 pub kind : {s : List ℕ} {x : Orders} → Reads s x → Kind s x
-kind (long-file l) = refused {n = longFile} (omega arith)
-kind (short-file l (no-bytes e)) = refused {n = wrongHeading} (omega arith)
-kind {s} (short-file l (in-heading n f)) = refused (lowest-given of-heading s f .0)
-kind (short-file l (in-entry {es} {here = t} p n f)) = refused (lowest-given (of-entry (names es)) t f .0)
-kind (short-file l (empty-list p)) = refused {n = emptyList} (omega arith)
+kind (long-file l) = unfit {n = longFile} (omega arith)
+kind (short-file l (no-bytes e)) = unfit {n = wrongHeading} (omega arith)
+kind {s} (short-file l (in-heading n f)) = unfit (lowest-given of-heading s f .0)
+kind (short-file l (in-entry {es} {here = t} p n f)) = unfit (lowest-given (of-entry (names es)) t f .0)
+kind (short-file l (empty-list p)) = unfit {n = emptyList} (omega arith)
 kind (short-file l (accepted p n)) = tells (record { size = l; passed = p; some = n })
 
 pub accepted-if : (s : List ℕ) (es : List Entry) → Accepted s es → readOrders s ≡ orders 0 0 (names es) (codes es)
@@ -49,5 +49,5 @@ accepted-only-if s = by (kind (reads-ours s))
   where
     by : {x : Orders} → Kind s x → x .number ≡ 0
         → (es : List Entry) × Accepted s es × (x ≡ orders 0 0 (names es) (codes es))
-    by (refused h) z = absurd (omega arith)
+    by (unfit h) z = absurd (omega arith)
     by (tells {es} a) z = (es, a, refl)

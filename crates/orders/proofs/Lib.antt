@@ -15,7 +15,7 @@ pub mod Exactly
 pub mod WrongReader
 pub mod Impostors
 -- What reading hands on, to the caller and to the later calls.
-pub mod Buffers
+pub mod Answers
 pub mod HandsOn
 -- Fields as they are written, and ribbon files.
 pub mod Quoting

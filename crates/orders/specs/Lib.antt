@@ -4,6 +4,7 @@ pub mod Files
 pub mod Grammar
 pub mod Rows
 pub mod Orders
+pub mod Answers
 pub mod HandsOn
 pub mod Quoting
 pub mod RibbonFile

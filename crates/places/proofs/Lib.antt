@@ -1,3 +1,4 @@
--- The check is exact.
+-- The check: its search, and the call.
 pub mod Check
+pub mod Answers
 pub mod Impostors

@@ -1,24 +1,29 @@
 -- What checking a supplied ribbon answers and what it leaves in the lent records, as functions of what is handed over.
 -- Refusals come in the order 12, 15, 8 in the ribbon, 14, 13, all with row 0; 13 only where it would answer held.
+use mathlib.Core.Path.{_≡_}
 use mathlib.Core.Bool.{true, false, not}
 use mathlib.Core.List.{List, [], _∷_}
-use Prim.Native.Nat.{ℕ, suc, _-_}
+use Prim.Native.Nat.{ℕ, suc, _+_, _-_, _≤_, _<_}
 use lib.Dec.{eqb, ltb, leb}
 use lib.IntN.{ℤ, pos, negsuc}
 use lib.ListN.{length}
 use Rattle.words.specs.Tests.{pick}
 use Rattle.words.specs.Turn.{turned}
-use Rattle.words.specs.Place.{Place, placeOf}
-use Rattle.lists.specs.Refusals.{falseList, longRibbon, unknownColour, stuck, shortBuffer, when, firstOf}
+use Rattle.words.specs.Lists.{Each}
+use Rattle.words.specs.Place.{Place, IsPlace, placeOf}
+use Rattle.lists.specs.Refusals.{Refusal, whole, falseList, longRibbon, unknownColour, stuck, shortBuffer, when, firstOf}
 use Rattle.lists.specs.Outcome.{Outcome, outcome}
 use Rattle.lists.specs.Runs.{codesIn, over}
+use Rattle.lists.specs.Rules.{Band, FalseCodes}
 use Rattle.lists.specs.Fit.{allBands, listOk}
+use Rattle.joins.specs.Rules.{Chosen}
+use Rattle.layout.specs.Rules.{Lays, Stuck, AllStand}
 use Rattle.layout.specs.Layout.{ribbonFor, isStuck}
-use Rattle.places.specs.Check.{none-missing, missing, missingOn}
+use Rattle.places.specs.Check.{none-missing, missing, missingOn, IsMissing}
 
--- refused with a number, missing the code of a number, or held with the difference
+-- refused, missing the code of a number, or held with the difference
 pub data CheckAnswer : Type 0 where
-  refused : ℕ → CheckAnswer
+  refused : Refusal → CheckAnswer
   missing-code : ℕ → CheckAnswer
   held : ℤ → CheckAnswer
 
@@ -41,8 +46,8 @@ less a b = pick (leb b a) (pos (a - b)) (negsuc (b - a - 1))
 
 module _ (run ls row : List ℕ) where
   -- the refusals of a list or a ribbon
-  abbrev pub rowFault : ℕ
-  rowFault =
+  abbrev pub suppliedFault : ℕ
+  suppliedFault =
       firstOf (when (not (listOk run ls)) falseList)
       (firstOf (when (ltb 16384 (length row)) longRibbon)
       (firstOf (when (not (allBands row)) unknownColour) (when (isStuck turned (codesIn run ls)) stuck)))
@@ -50,7 +55,7 @@ module _ (run ls row : List ℕ) where
   -- held with all records filled, where there is room for them
   abbrev pub heldOutcome : List PlaceRecord → CheckOutcome
   heldOutcome records = elim (ltb (length records) (length ls)) [
-    | true ↦ outcome (refused shortBuffer) records
+    | true ↦ outcome (refused (whole shortBuffer)) records
     | false ↦
         outcome
         (held (less (length row) (length (ribbonFor turned (codesIn run ls)))))
@@ -58,10 +63,47 @@ module _ (run ls row : List ℕ) where
   ]
 
   abbrev pub checkOutcome : List PlaceRecord → CheckOutcome
-  checkOutcome records = elim (eqb rowFault 0) [
-    | false ↦ outcome (refused rowFault) records
+  checkOutcome records = elim (eqb suppliedFault 0) [
+    | false ↦ outcome (refused (whole suppliedFault)) records
     | true ↦ elim (missingOn turned (codesIn run ls) row) [
       | missing k ↦ outcome (missing-code k) records
       | none-missing ↦ heldOutcome records
     ]
   ]
+
+-- The difference: the supplied length is the computed one and as much more, or less.
+pub data Difference (supplied computed : ℕ) : ℤ → Type 0 where
+  more : {d : ℕ} → supplied ≡ computed + d → Difference supplied computed (pos d)
+  fewer : {d : ℕ} → supplied + suc d ≡ computed → Difference supplied computed (negsuc d)
+
+-- A record for each code from number i on, in list order, with its place.
+abbrev pub AreRecords : ℕ → List (List ℕ) → List ℕ → List PlaceRecord → Type 0
+AreRecords i [] row [] = Unit {0}
+AreRecords i [] row (r ∷ rs) = ⊥
+AreRecords i (c ∷ cs) row [] = ⊥
+AreRecords i (c ∷ cs) row (r ∷ rs) = (r .code ≡ i) × IsPlace turned 0 c row (r .place) × AreRecords (suc i) cs row rs
+
+-- The claim on a call: 12, 15, 8, 14 in this order, then missing, then 13, and held; a refused call changes no record.
+module _ (run ls row : List ℕ) (records : List PlaceRecord) where
+  -- a list and a ribbon that are not refused
+  pub record Fit : Type 0 where
+    pub list : FalseCodes run ls → ⊥
+    pub long : length row ≤ 16384
+    pub bands : Each Band row
+
+  pub data ChecksInto : CheckOutcome → Type 0 where
+    false-list : FalseCodes run ls → ChecksInto (outcome (refused (whole falseList)) records)
+    long-ribbon : (FalseCodes run ls → ⊥) → 16384 < length row → ChecksInto (outcome (refused (whole longRibbon)) records)
+    no-colour : (FalseCodes run ls → ⊥) → length row ≤ 16384 → (Each Band row → ⊥)
+        → ChecksInto (outcome (refused (whole unknownColour)) records)
+    no-join : Fit → Stuck turned (codesIn run ls) → ChecksInto (outcome (refused (whole stuck)) records)
+    no-place : {k : ℕ} → Fit → IsMissing turned (codesIn run ls) row (missing k) → ChecksInto (outcome (missing-code k) records)
+    short-buffer : Fit → AllStand turned (codesIn run ls) row → length records < length ls
+        → ChecksInto (outcome (refused (whole shortBuffer)) records)
+    filled : {ribbon : List ℕ} {saved : ℕ} {d : ℤ} (rs : List PlaceRecord) → Fit → AllStand turned (codesIn run ls) row
+        → length ls ≤ length records → Lays Chosen turned (codesIn run ls) ribbon saved
+        → Difference (length row) (length ribbon) d → AreRecords 0 (codesIn run ls) row rs
+        → ChecksInto (outcome (held d) (over rs records))
+
+abbrev pub Checks : (List ℕ → List ℕ → List ℕ → List PlaceRecord → CheckOutcome) → Type 0
+Checks call = (run ls row : List ℕ) (records : List PlaceRecord) → ChecksInto run ls row records (call run ls row records)

@@ -8,7 +8,7 @@ use Rattle.lists.specs.Outcome.{outcome}
 use Rattle.lists.specs.Runs.{codesIn}
 use Rattle.lists.proofs.Rules.{codes-checked, names-checked}
 use Rattle.orders.proofs.Exactly.{meets-ours}
-use Rattle.orders.proofs.Buffers.{serves-ours}
+use Rattle.orders.proofs.Answers.{serves-ours}
 use Rattle.orders.proofs.HandsOn.{hands-on}
 use Rattle.orders.proofs.RibbonFile.{takes-ours}
 use Rattle.layout.specs.Answers.{laid, LaysInto, layOutcome}

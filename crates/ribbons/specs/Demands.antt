@@ -11,7 +11,8 @@ use Rattle.lists.specs.Rules.{ChecksCodes, ChecksNames}
 use Rattle.lists.specs.Fit.{listOk, namesOk}
 use Rattle.orders.specs.Grammar.{Meets}
 use Rattle.orders.specs.Orders.{readOrders}
-use Rattle.orders.specs.HandsOn.{Serves, readInto, Hands-on}
+use Rattle.orders.specs.Answers.{Serves, readOutcome}
+use Rattle.orders.specs.HandsOn.{Hands-on}
 use Rattle.orders.specs.RibbonFile.{Takes, ribbonOf}
 use Rattle.joins.specs.Rules.{Largest}
 use Rattle.layout.specs.Dropping.{kept}
@@ -32,7 +33,7 @@ Demand3 =
 pub record Demands : Type 0 where
   -- 1. Nothing unfit is accepted: each is refused by its number in the table, and a refusal leaves all lent memory untouched.
   pub files : Meets readOrders
-  pub reading : Serves readInto
+  pub reading : Serves readOutcome
   pub codes : ChecksCodes listOk
   pub names : ChecksNames namesOk
   pub laying : LaysOut layOutcome

@@ -6,16 +6,16 @@ use Prim.Native.Nat.{ℕ}
 use lib.Dec.{eqb, ltb}
 use lib.ListN.{length}
 use Rattle.words.specs.Turn.{turned}
-use Rattle.lists.specs.Refusals.{falseList, stuck, shortBuffer, when, firstOf}
+use Rattle.lists.specs.Refusals.{Refusal, whole, falseList, stuck, shortBuffer, when, firstOf}
 use Rattle.lists.specs.Outcome.{Outcome, outcome}
 use Rattle.lists.specs.Runs.{codesIn, over}
 use Rattle.lists.specs.Fit.{listOk, namesOk}
 use Rattle.layout.specs.Layout.{savedBy, isStuck}
 use Rattle.sheets.specs.Sheet.{sheetText}
 
--- refused with a number, or written with the sheet's length and what the ribbon saves
+-- refused; or written with the sheet's length and what the ribbon saves
 pub data SheetAnswer : Type 0 where
-  refused : ℕ → SheetAnswer
+  refused : Refusal → SheetAnswer
   written : (bytes saved : ℕ) → SheetAnswer
 
 abbrev pub SheetOutcome : Type 0
@@ -35,5 +35,5 @@ module _ (run ls name-run name-ls : List ℕ) where
       let f = sheetFault (length buffer) in
       elim (eqb f 0) [
         | true ↦ outcome (written (length sheetFor) (savedBy turned (codesIn run ls))) (over sheetFor buffer)
-        | false ↦ outcome (refused f) buffer
+        | false ↦ outcome (refused (whole f)) buffer
       ]

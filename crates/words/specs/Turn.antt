@@ -4,12 +4,12 @@ use mathlib.Core.List.{List, [], _∷_, _++_}
 use Prim.Native.Nat.{ℕ, suc, _+_}
 use lib.ListN.{length, getD}
 
--- read from the last to the first, each seen from behind as m shows it
+-- in reverse order, each replaced by m of it
 abbrev pub turnedBy : {A : Type 0} → (A → A) → List A → List A
 turnedBy m [] = []
 turnedBy m (b ∷ c) = turnedBy m c ++ (m b ∷ [])
 
--- turned: the bands read from the last to the first (the reversal); a band looks the same from behind
+-- turned: the bands read from the last to the first (the reversal of a string); no band is replaced
 unfoldable pub turned : List ℕ → List ℕ
 turned c = turnedBy (λ b. b) c
 

@@ -12,18 +12,18 @@ use Rattle.words.specs.Texts.{text}
 use Rattle.words.specs.Tests.{pick}
 use Rattle.words.specs.Decides.{Decides, yes, no}
 use Rattle.words.proofs.Deciding.{decides-or, passes, refuses, is-lt}
-use Rattle.lists.specs.Refusals.{shortBuffer, when}
+use Rattle.lists.specs.Refusals.{refusal, whole, shortBuffer, when}
 use Rattle.orders.specs.Files.{Orders, orders, bad}
 use Rattle.orders.specs.Grammar.{names, codes, Reads}
 use Rattle.orders.specs.Orders.{readOrders}
-use Rattle.orders.specs.HandsOn.{Lent, lent, resultOf, putInto, ReadValues}
-use Rattle.lists.specs.Outcome.{Outcome, outcome}
-use Rattle.orders.specs.HandsOn.{refusal, counts, Short}
-use Rattle.orders.specs.HandsOn.{ReadsInto, file-refused, short-buffer, filled, Serves, tooShort, outcomeFor}
-use Rattle.orders.specs.HandsOn.{readInto}
+use Rattle.orders.specs.Answers.{Lent, lent, resultOf, putInto, ReadAnswer, ReadOutcome}
+use Rattle.lists.specs.Outcome.{outcome}
+use Rattle.orders.specs.Answers.{refused, read, counts, Short}
+use Rattle.orders.specs.Answers.{ReadsInto, file-refused, short-buffer, filled, Serves, tooShort, outcomeFor}
+use Rattle.orders.specs.Answers.{readOutcome}
 use Rattle.orders.proofs.Reading.{reads-ours}
 use Rattle.orders.proofs.Only.{reads-only}
-use Rattle.orders.proofs.Exactly.{Kind, refused, tells, kind}
+use Rattle.orders.proofs.Exactly.{Kind, unfit, tells, kind}
 use Rattle.orders.proofs.Impostors.{headed}
 
 is-short : (b r : Lent) → Decides (Short b r) (tooShort b r)
@@ -31,7 +31,7 @@ is-short b r = decides-or (is-lt _ _) (decides-or (is-lt _ _) (decides-or (is-lt
 
 -- what ours gives in each case
 module _ (b : Lent) where
-  if-refused : (n l : ℕ) → 0 < n → outcomeFor (bad n l) b ≡ outcome (refusal n l) b
+  if-refused : (n l : ℕ) → 0 < n → outcomeFor (bad n l) b ≡ outcome (refused (refusal n l)) b
   if-refused zero l h = absurd (omega arith)
   if-refused (suc n) l h = cc (eqb·suc-zero n)
 
@@ -40,12 +40,12 @@ module _ (b : Lent) where
     r = resultOf ns cs
 
     -- by the test for 13
-    by-test : Bool → Outcome ReadValues Lent
+    by-test : Bool → ReadOutcome
     by-test t =
         let f = when t shortBuffer in
-        elim (eqb f 0) [ true ↦ outcome (counts r) (putInto r b) | false ↦ outcome (refusal f 0) b ]
+        elim (eqb f 0) [ true ↦ outcome (counts r) (putInto r b) | false ↦ outcome (refused (whole f)) b ]
 
-    if-short : Short b r → outcomeFor (orders 0 0 ns cs) b ≡ outcome (refusal shortBuffer 0) b
+    if-short : Short b r → outcomeFor (orders 0 0 ns cs) b ≡ outcome (refused (whole shortBuffer)) b
     unfolding by-test
     if-short h = ap by-test (passes (is-short b r) h)
 
@@ -55,7 +55,7 @@ module _ (b : Lent) where
 
 -- Ours meets it.
 answered : (s : List ℕ) (b : Lent) {x : Orders} → Kind s x → Reads s x → ReadsInto s b (outcomeFor x b)
-answered s b (refused {n} {l} h) x = rw (if-refused b n l h) (file-refused x h)
+answered s b (unfit {n} {l} h) x = rw (if-refused b n l h) (file-refused x h)
 answered s b (tells {es} a) x = by (is-short b (resultOf ns cs))
   where
     ns : List (List ℕ)
@@ -68,17 +68,17 @@ answered s b (tells {es} a) x = by (is-short b (resultOf ns cs))
     by (yes h) = rw (if-short b ns cs h) (short-buffer x h)
     by (no h) = rw (if-filled b ns cs h) (filled x h)
 
-pub serves-ours : Serves readInto
+pub serves-ours : Serves readOutcome
 serves-ours s b = answered s b (kind (reads-ours s)) (reads-ours s)
 
 -- Nothing else does.
-into-only : {s : List ℕ} {b : Lent} {o : Outcome ReadValues Lent} → ReadsInto s b o → readInto s b ≡ o
+into-only : {s : List ℕ} {b : Lent} {o : ReadOutcome} → ReadsInto s b o → readOutcome s b ≡ o
 into-only {b} (file-refused {n} {l} x h) = ap (λ y. outcomeFor y b) (reads-only x) ∙ if-refused b n l h
 into-only {b} (short-buffer {ns} {cs} x h) = ap (λ y. outcomeFor y b) (reads-only x) ∙ if-short b ns cs h
 into-only {b} (filled {ns} {cs} x h) = ap (λ y. outcomeFor y b) (reads-only x) ∙ if-filled b ns cs h
 
-pub serves-only : (call : List ℕ → Lent → Outcome ReadValues Lent) → Serves call → (s : List ℕ) (b : Lent)
-    → call s b ≡ readInto s b
+pub serves-only : (call : List ℕ → Lent → ReadOutcome) → Serves call → (s : List ℕ) (b : Lent)
+    → call s b ≡ readOutcome s b
 serves-only call h s b = sym (into-only (h s b))
 
 -- Impostors, each caught on the heading and P,A, with buffers of these sizes that hold 7s. (13 goes with no fault of
@@ -89,39 +89,42 @@ file = headed (text "P,A")
 abbrev sevens : ℕ → ℕ → Lent
 sevens n m = lent (replicate n 7) (replicate m 7) (replicate n 7) (replicate m 7)
 
-caught : (call : List ℕ → Lent → Outcome ReadValues Lent) (b : Lent) (look : Outcome ReadValues Lent → ℕ)
-    → look (readInto file b) ≢ look (call file b) → Serves call → ⊥
+caught : (call : List ℕ → Lent → ReadOutcome) (b : Lent) (look : ReadOutcome → ℕ)
+    → look (readOutcome file b) ≢ look (call file b) → Serves call → ⊥
 caught call b look d h = d (ap look (into-only (h file b)))
 
-abbrev answer : List ℕ → Lent → ReadValues
-answer s b = readInto s b .answer
+abbrev number : ReadOutcome → ℕ
+number o = elim (o .answer) [ refused r ↦ r .number | read c b n ↦ 0 ]
+
+abbrev answer : List ℕ → Lent → ReadAnswer
+answer s b = readOutcome s b .answer
 
 abbrev result : List ℕ → Lent
 result s = let x = readOrders s in resultOf (x .names) (x .codes)
 
 -- 13 before any search, where the bands of some list would not fit
-abbrev short-unread : List ℕ → Lent → Outcome ReadValues Lent
-short-unread s b = pick (ltb (length (b .code-run)) 8192) (outcome (refusal shortBuffer 0) b) (readInto s b)
+abbrev short-unread : List ℕ → Lent → ReadOutcome
+short-unread s b = pick (ltb (length (b .code-run)) 8192) (outcome (refused (whole shortBuffer)) b) (readOutcome s b)
 
 pub not-short-unread : Serves short-unread → ⊥
-not-short-unread = caught short-unread (sevens 1 1) (λ o. o .answer .number) (λ e. omega arith)
+not-short-unread = caught short-unread (sevens 1 1) number (λ e. omega arith)
 
 -- a refused call that writes; no room for lengths
-abbrev writes-refused : List ℕ → Lent → Outcome ReadValues Lent
+abbrev writes-refused : List ℕ → Lent → ReadOutcome
 writes-refused s b = outcome (answer s b) (putInto (result s) b)
 
 pub not-writes-refused : Serves writes-refused → ⊥
 not-writes-refused = caught writes-refused (sevens 1 0) (λ o. getD (o .after .code-run) 0 0) (λ e. omega arith)
 
 -- an untouched buffer
-abbrev untouched : List ℕ → Lent → Outcome ReadValues Lent
+abbrev untouched : List ℕ → Lent → ReadOutcome
 untouched s b = outcome (answer s b) b
 
 pub not-untouched : Serves untouched → ⊥
 not-untouched = caught untouched (sevens 1 1) (λ o. getD (o .after .code-run) 0 0) (λ e. omega arith)
 
 -- a run of bands cleared past the result; room for two bands
-abbrev cleared : List ℕ → Lent → Outcome ReadValues Lent
+abbrev cleared : List ℕ → Lent → ReadOutcome
 cleared s b =
     let zeros = lent (map (λ x. 0) (b .code-run)) (b .code-lengths) (b .name-run) (b .name-lengths) in
     outcome (answer s b) (putInto (result s) zeros)
