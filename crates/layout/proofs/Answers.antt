@@ -24,7 +24,7 @@ use Rattle.layout.specs.Layout.{ribbonFor, savedBy}
 use Rattle.layout.specs.Answers.{LayOutcome, refused, laid, LaysInto, false-list, no-join, short-buffer, filled}
 use Rattle.layout.specs.Answers.{LaysOut, layOutcome, Means}
 use Rattle.layout.proofs.Laying.{lays-stand, lays-add, lays-twice, never-stuck-rule}
-use Rattle.layout.proofs.Claims.{lays-ours, lays-only, chosen-largest, demands}
+use Rattle.layout.proofs.Claims.{lays-ours, lays-only, chosen-largest, each-laid}
 
 module _ (run ls buffer : List ℕ) where
   abbrev cs : List (List ℕ)
@@ -46,7 +46,7 @@ module _ (run ls buffer : List ℕ) where
   as-tested : layOutcome run ls buffer ≡ byTests (not (listOk run ls)) false (ltb (length buffer) (length ribbon))
   as-tested =
       ap (λ (st : Bool). byTests (not (listOk run ls)) st (ltb (length buffer) (length ribbon)))
-      (demands turned turning cs .never-found-stuck)
+      (each-laid turned turning cs .never-found-stuck)
 
   -- Ours meets it.
   meets : {bad short : Bool} → Decides (FalseCodes run ls) bad → Decides (length buffer < length ribbon) short

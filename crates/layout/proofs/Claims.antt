@@ -20,7 +20,7 @@ use Rattle.layout.specs.Dropping.{kept}
 use Rattle.layout.specs.Reading.{shared, readPiece, savedAlong}
 use Rattle.layout.specs.Rules.{Reads, Lays, AllStand}
 use Rattle.layout.specs.Layout.{orderFor, ribbonFor, savedBy}
-use Rattle.layout.specs.Demands.{Demands}
+use Rattle.layout.specs.Laid.{EachLaid}
 use Rattle.layout.specs.Starred.{ByHand, starred, Starred}
 use Rattle.layout.proofs.Dropping.{keeps-one, keeper-ours}
 use Rattle.layout.proofs.Laying.{lays-stand, lays-add, lays-twice, never-stuck-rule}
@@ -93,15 +93,15 @@ chosen-largest x =
       reads = x .reads;
     }
 
-pub demands : Demands
-demands turn t cs =
+pub each-laid : EachLaid
+each-laid turn t cs =
     let ours = chosen-largest (lays-ours turn cs) in
     let keeps = keeper-ours (is-some-way turn) cs in
     record {
       by-rule = lays-ours turn cs;
       all-stand = lays-stand t ours;
       adds-up = lays-add t ours (kept turn cs) keeps;
-      at-most-twice = λ rival on. lays-twice t ours (kept turn cs) rival keeps on;
+      at-most-twice = lays-twice t ours;
       never-stuck = never-stuck-rule;
       never-found-stuck = never-stuck (length (kept turn cs)) (shared turn (kept turn cs));
     }

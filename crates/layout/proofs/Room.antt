@@ -19,7 +19,7 @@ use Rattle.layout.specs.Dropping.{codeAt, without, isDropped}
 use Rattle.layout.specs.Layout.{ribbonFor, savedBy}
 use Rattle.layout.specs.Answers.{laid, layOutcome}
 use Rattle.words.specs.Stand.{someWay}
-use Rattle.layout.proofs.Claims.{demands}
+use Rattle.layout.proofs.Claims.{each-laid}
 
 code-short : (cs : List (List ℕ)) → Each CodeRule cs → (i : ℕ) → length (codeAt cs i) ≤ 64
 code-short [] h i = omega arith
@@ -51,7 +51,7 @@ ribbon-at-most run ls ok =
     let numbers = without (isDropped (someWay turned) cs) 0 (length cs) in
     omega (
       arith,
-      demands turned turning cs .adds-up,
+      each-laid turned turning cs .adds-up,
       total-short cs (F .coded) numbers,
       some-of (isDropped (someWay turned) cs) 0 (length cs),
       codes-count run ls,
@@ -62,5 +62,5 @@ ribbon-at-most run ls ok =
 pub accepts : (run ls buffer : List ℕ) → listOk run ls ≡ true → length (ribbonFor turned (codesIn run ls)) ≤ length buffer
     → layOutcome run ls buffer .answer ≡ laid (length (ribbonFor turned (codesIn run ls))) (savedBy turned (codesIn run ls))
 accepts run ls buffer ok room =
-    let e = demands turned turning (codesIn run ls) .never-found-stuck in
+    let e = each-laid turned turning (codesIn run ls) .never-found-stuck in
     rw (layOutcome, ok, e, le-ltb (length buffer) (length (ribbonFor turned (codesIn run ls))) room)

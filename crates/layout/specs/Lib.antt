@@ -4,6 +4,6 @@ pub mod Dropping
 pub mod Reading
 pub mod Rules
 pub mod Layout
-pub mod Demands
+pub mod Laid
 pub mod Answers
 pub mod Starred

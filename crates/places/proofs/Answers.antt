@@ -22,7 +22,7 @@ use Rattle.lists.specs.Rules.{Band, FalseCodes}
 use Rattle.lists.specs.Fit.{listOk, allBands}
 use Rattle.lists.proofs.Rules.{is-false-codes, all-bands}
 use Rattle.layout.specs.Layout.{ribbonFor}
-use Rattle.layout.proofs.Claims.{lays-ours, lays-only, demands}
+use Rattle.layout.proofs.Claims.{lays-ours, lays-only, each-laid}
 use Rattle.layout.proofs.Laying.{never-stuck-rule}
 use Rattle.places.specs.Check.{Missing, none-missing, missing, IsMissing, all-held, lowest, missingOn}
 use Rattle.places.specs.Answers.{PlaceRecord, recordsFrom, less, CheckOutcome, refused, missing-code, held, checkOutcome}
@@ -64,7 +64,7 @@ module _ (run ls row : List ℕ) (records : List PlaceRecord) where
       ≡ byTests (not (listOk run ls)) (ltb 16384 (length row)) (allBands row) false (missingOn turned cs row) (ltb (length records) (length ls))
   as-tested =
       ap (λ (st : Bool). byTests (not (listOk run ls)) (ltb 16384 (length row)) (allBands row) st (missingOn turned cs row) (ltb (length records) (length ls)))
-      (demands turned turning cs .never-found-stuck)
+      (each-laid turned turning cs .never-found-stuck)
 
   meets : {bad long ok short : Bool} {m : Missing} → Decides (FalseCodes run ls) bad → Decides (16384 < length row) long
       → Decides (Each Band row) ok → IsMissing turned cs row m → Decides (length records < length ls) short

@@ -1,23 +1,67 @@
 -- The demands, each from the crate of the definition that it speaks of.
 use mathlib.Core.Path.{subst}
+use native.Mathlib.Omega.{arith}
 use Rattle.words.specs.Turn.{turned}
-use Rattle.words.proofs.Turning.{turning}
+use Rattle.words.proofs.Turning.{turning, turns-ours, turns-only}
 use Rattle.words.proofs.Standing.{is-some-way}
-use Rattle.words.proofs.Placing.{finds-ours}
+use Rattle.words.proofs.Overlaps.{overlaps-ours, overlaps-only}
+use Rattle.words.proofs.Placing.{finds-ours, finds-only}
 use Rattle.lists.specs.Outcome.{outcome}
 use Rattle.lists.specs.Runs.{codesIn}
-use Rattle.lists.proofs.Rules.{codes-checked, names-checked}
-use Rattle.orders.proofs.Exactly.{meets-ours}
-use Rattle.orders.proofs.Answers.{serves-ours}
+use Rattle.lists.proofs.Rules.{codes-checked, codes-only, names-checked, names-only}
+use Rattle.orders.proofs.Exactly.{meets-ours, meets-only}
+use Rattle.orders.proofs.Answers.{serves-ours, serves-only}
 use Rattle.orders.proofs.HandsOn.{hands-on}
-use Rattle.orders.proofs.RibbonFile.{takes-ours}
+use Rattle.orders.proofs.RibbonFile.{takes-ours, takes-only}
+use Rattle.joins.proofs.Claims.{joiner-ours, joiner-only}
 use Rattle.layout.specs.Answers.{laid, LaysInto, layOutcome}
-use Rattle.layout.proofs.Dropping.{keeper-ours}
-use Rattle.layout.proofs.Laying.{lays-twice}
-use Rattle.layout.proofs.Claims.{demands}
-use Rattle.layout.proofs.Answers.{lays-out-ours, laid-means}
-use Rattle.places.proofs.Check.{misses-ours}
-use Rattle.ribbons.specs.Demands.{Demand3, Demands}
+use Rattle.layout.proofs.Dropping.{keeper-ours, keeper-only}
+use Rattle.layout.proofs.Laying.{lays-twice, never-stuck-rule}
+use Rattle.layout.proofs.Claims.{lays-ours, lays-only, each-laid, starred-lay}
+use Rattle.layout.proofs.Answers.{lays-out-ours, lays-out-only, laid-means}
+use Rattle.layout.proofs.Room.{ribbon-at-most, accepts}
+use Rattle.places.proofs.Check.{misses-ours, misses-only}
+use Rattle.places.proofs.Answers.{checks-ours, checks-only}
+use Rattle.ribbons.specs.Demands.{Pinned, NoFreedom, Demand3, Demands}
+
+pinned : Pinned
+pinned =
+    record {
+      turning = turns-ours;
+      overlaps = overlaps-ours;
+      places = finds-ours turned;
+      codes = codes-checked;
+      names = names-checked;
+      files = meets-ours;
+      ribbon-files = takes-ours;
+      dropping = keeper-ours (is-some-way turned);
+      joining = joiner-ours;
+      ribbons = lays-ours turned;
+      searching = misses-ours turned;
+      reading = serves-ours;
+      laying = lays-out-ours;
+      checking = checks-ours;
+      starred = starred-lay;
+    }
+
+no-freedom : NoFreedom
+no-freedom =
+    record {
+      turning = turns-only;
+      overlaps = overlaps-only;
+      places = finds-only;
+      codes = codes-only;
+      names = names-only;
+      files = meets-only;
+      ribbon-files = takes-only;
+      dropping = keeper-only (is-some-way turned);
+      joining = joiner-only;
+      ribbons = λ cs ribbon saved x. lays-only turned x;
+      searching = misses-only;
+      reading = serves-only;
+      laying = lays-out-only;
+      checking = checks-only;
+    }
 
 pub demand-3 : Demand3
 demand-3 run ls buffer bands saved e rival on =
@@ -30,16 +74,13 @@ demand-3 run ls buffer bands saved e rival on =
 pub all-demands : Demands
 all-demands =
     record {
-      files = meets-ours;
-      reading = serves-ours;
-      codes = codes-checked;
-      names = names-checked;
-      laying = lays-out-ours;
+      pinned = pinned;
+      no-freedom = no-freedom;
+      accepted = λ run ls buffer ok room. accepts run ls buffer ok (omega (arith, ribbon-at-most run ls ok));
+      never-stuck = λ cs x. never-stuck-rule x;
       hands-on = hands-on;
-      ribbon-files = takes-ours;
-      laid-out = λ run ls _. demands turned turning (codesIn run ls);
-      checking = misses-ours turned;
-      places = finds-ours turned;
+      all-stand = λ cs. each-laid turned turning cs .all-stand;
+      adds-up = λ cs. each-laid turned turning cs .adds-up;
       at-most-twice = demand-3;
       any-ties = λ turn t cs ribbon saved l. lays-twice t l;
     }

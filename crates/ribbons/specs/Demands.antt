@@ -1,25 +1,76 @@
--- What is demanded, of the rules: one record, a field for each sentence.
+-- What is demanded, of the rules, in three records: each definition meets the claim that pins it, nothing else does, and
+-- the three demands follow.
 use mathlib.Core.Path.{_≡_}
-use mathlib.Core.Bool.{true}
+use mathlib.Core.Bool.{Bool, true}
 use mathlib.Core.List.{List}
 use Prim.Native.Nat.{ℕ, _+_, _*_, _≤_}
 use lib.ListN.{length}
-use Rattle.words.specs.Turn.{turned, Turning}
-use Rattle.words.specs.Place.{Finds, placeOf}
+use Rattle.words.specs.Turn.{turned, Turning, Turns}
+use Rattle.words.specs.Stand.{StandsSomeWay}
+use Rattle.words.specs.Overlap.{Overlaps, overlap}
+use Rattle.words.specs.Place.{Place, Finds, placeOf}
 use Rattle.lists.specs.Runs.{codesIn, total, lengths}
 use Rattle.lists.specs.Rules.{ChecksCodes, ChecksNames}
 use Rattle.lists.specs.Fit.{listOk, namesOk}
+use Rattle.orders.specs.Files.{Orders}
 use Rattle.orders.specs.Grammar.{Meets}
 use Rattle.orders.specs.Orders.{readOrders}
-use Rattle.orders.specs.Answers.{Serves, readOutcome}
+use Rattle.orders.specs.Answers.{Lent, ReadOutcome, Serves, readOutcome}
 use Rattle.orders.specs.HandsOn.{Hands-on}
 use Rattle.orders.specs.RibbonFile.{Takes, ribbonOf}
-use Rattle.joins.specs.Rules.{Largest}
-use Rattle.layout.specs.Dropping.{kept}
-use Rattle.layout.specs.Rules.{Lays, AllStand, AtMostTwice}
-use Rattle.layout.specs.Demands.{Laid}
-use Rattle.layout.specs.Answers.{laid, LaysOut, layOutcome}
-use Rattle.places.specs.Check.{Misses, missingOn}
+use Rattle.joins.specs.Faces.{Join}
+use Rattle.joins.specs.Rules.{Chosen, Largest, Joiner}
+use Rattle.joins.specs.Rounds.{layoutOf}
+use Rattle.layout.specs.Dropping.{Keeper, kept}
+use Rattle.layout.specs.Rules.{Lays, Stuck, AllStand, AtMostTwice}
+use Rattle.layout.specs.Layout.{ribbonFor, savedBy}
+use Rattle.layout.specs.Answers.{LayOutcome, laid, LaysOut, layOutcome}
+use Rattle.layout.specs.Starred.{Starred}
+use Rattle.places.specs.Check.{Missing, Misses, missingOn}
+use Rattle.places.specs.Answers.{PlaceRecord, CheckOutcome, Checks, checkOutcome}
+
+-- Each definition meets the claim that pins it.
+pub record Pinned : Type 0 where
+  pub turning : Turns turned
+  pub overlaps : Overlaps overlap
+  pub places : Finds turned (placeOf turned)
+  pub codes : ChecksCodes listOk
+  pub names : ChecksNames namesOk
+  pub files : Meets readOrders
+  pub ribbon-files : Takes ribbonOf
+  pub dropping : Keeper (StandsSomeWay turned) (kept turned)
+  pub joining : Joiner (λ n w. layoutOf n w .joins)
+  pub ribbons : (cs : List (List ℕ)) → Lays Chosen turned cs (ribbonFor turned cs) (savedBy turned cs)
+  pub searching : Misses turned (missingOn turned)
+  pub reading : Serves readOutcome
+  pub laying : LaysOut layOutcome
+  pub checking : Checks checkOutcome
+  -- document 01's starred ribbons
+  pub starred : Starred
+
+-- Nothing else does: whatever meets a claim gives what ours gives on every input.
+pub record NoFreedom : Type 0 where
+  pub turning : (turn : List ℕ → List ℕ) → Turns turn → (c : List ℕ) → turn c ≡ turned c
+  pub overlaps : (w : List ℕ → List ℕ → ℕ) → Overlaps w → (a b : List ℕ) → w a b ≡ overlap a b
+  pub places : (find : List ℕ → List ℕ → Place) → Finds turned find → (c s : List ℕ) → find c s ≡ placeOf turned c s
+  pub codes : (ok : List ℕ → List ℕ → Bool) → ChecksCodes ok → (run ls : List ℕ) → ok run ls ≡ listOk run ls
+  pub names : (ok : ℕ → List ℕ → List ℕ → Bool) → ChecksNames ok → (count : ℕ) (run ls : List ℕ)
+      → ok count run ls ≡ namesOk count run ls
+  pub files : (read : List ℕ → Orders) → Meets read → (s : List ℕ) → read s ≡ readOrders s
+  pub ribbon-files : (out : List ℕ → List ℕ) → Takes out → (s : List ℕ) → out s ≡ ribbonOf s
+  pub dropping : (keep : List (List ℕ) → List (List ℕ)) → Keeper (StandsSomeWay turned) keep → (cs : List (List ℕ))
+      → keep cs ≡ kept turned cs
+  pub joining : (make : ℕ → (ℕ → ℕ → ℕ) → List Join) → Joiner make → (n : ℕ) (w : ℕ → ℕ → ℕ)
+      → make n w ≡ layoutOf n w .joins
+  pub ribbons : (cs : List (List ℕ)) (ribbon : List ℕ) (saved : ℕ) → Lays Chosen turned cs ribbon saved
+      → (ribbon ≡ ribbonFor turned cs) × (saved ≡ savedBy turned cs)
+  pub searching : (check : List (List ℕ) → List ℕ → Missing) → Misses turned check → (cs : List (List ℕ)) (row : List ℕ)
+      → check cs row ≡ missingOn turned cs row
+  pub reading : (call : List ℕ → Lent → ReadOutcome) → Serves call → (s : List ℕ) (b : Lent) → call s b ≡ readOutcome s b
+  pub laying : (call : List ℕ → List ℕ → List ℕ → LayOutcome) → LaysOut call → (run ls buffer : List ℕ)
+      → call run ls buffer ≡ layOutcome run ls buffer
+  pub checking : (call : List ℕ → List ℕ → List ℕ → List PlaceRecord → CheckOutcome) → Checks call
+      → (run ls row : List ℕ) (records : List PlaceRecord) → call run ls row records ≡ checkOutcome run ls row records
 
 -- Demand 3, one claim over all lists and rivals. If laying out a list answers with saved, then for whatever row somebody
 -- else holds, of any length, on which every code of the list stands, the lengths of the kept codes, added up, are at most
@@ -31,21 +82,22 @@ Demand3 =
     → total (lengths (kept turned (codesIn run ls))) ≤ length rival + 2 * saved
 
 pub record Demands : Type 0 where
-  -- 1. Nothing unfit is accepted: each is refused by its number in the table, and a refusal leaves all lent memory untouched.
-  pub files : Meets readOrders
-  pub reading : Serves readOutcome
-  pub codes : ChecksCodes listOk
-  pub names : ChecksNames namesOk
-  pub laying : LaysOut layOutcome
-  -- What reading hands on is taken by the later calls; a ribbon file holds bands, one CR LF at its end being none.
+  -- 1. Nothing unfit is accepted, and what is refused leaves lent memory untouched: `reading`, `laying` and `checking` of
+  -- the records above. A fit list is accepted, into a buffer of 8,192 bytes; none gets stuck; what reading hands on is fit.
+  pub pinned : Pinned
+  pub no-freedom : NoFreedom
+  pub accepted : (run ls buffer : List ℕ) → listOk run ls ≡ true → 8192 ≤ length buffer
+      → layOutcome run ls buffer .answer
+      ≡ laid (length (ribbonFor turned (codesIn run ls))) (savedBy turned (codesIn run ls))
+  pub never-stuck : (cs : List (List ℕ)) → Stuck turned cs → ⊥
   pub hands-on : Hands-on
-  pub ribbon-files : Takes ribbonOf
-  -- 2. The ribbon is the one of Greedy-R2 with our tie rule, every listed code stands on it, and bands and saved add up.
-  pub laid-out : (run ls : List ℕ) → listOk run ls ≡ true → Laid turned (codesIn run ls)
-  -- A supplied ribbon passes exactly when every code stands on it, and each place is true.
-  pub checking : Misses turned (missingOn turned)
-  pub places : Finds turned (placeOf turned)
-  -- 3. The bound; and whoever settles the ties, and whatever the way of turning.
+  -- 2. The ribbon is the one of Greedy-R2 with our tie rule: `ribbons` above. Every listed code stands on it one way or the
+  -- other; its bands and the bands saved add up to those of the kept codes. A supplied ribbon passes exactly when every
+  -- code stands on it, and each place is true: `checking` and `places` above.
+  pub all-stand : (cs : List (List ℕ)) → AllStand turned cs (ribbonFor turned cs)
+  pub adds-up : (cs : List (List ℕ))
+      → length (ribbonFor turned cs) + savedBy turned cs ≡ total (lengths (kept turned cs))
+  -- 3. The bound, of our answer; and of every run of largest joins, whoever settles the ties, for every way of turning.
   pub at-most-twice : Demand3
   pub any-ties : (turn : List ℕ → List ℕ) → Turning turn → (cs : List (List ℕ)) (ribbon : List ℕ) (saved : ℕ)
       → Lays Largest turn cs ribbon saved → AtMostTwice turn cs saved

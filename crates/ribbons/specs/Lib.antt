@@ -1,2 +1,3 @@
 -- The demands, collected.
 pub mod Demands
+pub mod Programs

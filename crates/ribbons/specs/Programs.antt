@@ -1,0 +1,58 @@
+-- What the three programs write, as functions of the bytes of their input files. A file that isn't named or can't be
+-- opened counts as one of 0 bytes, so that a program has its bytes in any case.
+use mathlib.Core.Bool.{true, false, not}
+use mathlib.Core.List.{List, _∷_, _++_}
+use Prim.Native.Nat.{ℕ, suc}
+use lib.Dec.{eqb, ltb}
+use lib.IntN.{ℤ, pos, negsuc}
+use lib.ListN.{length}
+use Rattle.words.specs.Texts.{text}
+use Rattle.words.specs.Turn.{turned}
+use Rattle.lists.specs.Refusals.{Refusal, refusal, whole, longRibbon, unknownColour, when, firstOf}
+use Rattle.lists.specs.Fit.{allBands}
+use Rattle.orders.specs.Files.{comma, lineBreak, Orders}
+use Rattle.orders.specs.Orders.{readOrders}
+use Rattle.orders.specs.RibbonFile.{ribbonOf}
+use Rattle.layout.specs.Layout.{ribbonFor}
+use Rattle.places.specs.Check.{Missing, none-missing, missing, missingOn}
+use Rattle.places.specs.Answers.{less}
+use Rattle.sheets.specs.Decimal.{decimal}
+use Rattle.sheets.specs.Sheet.{sheetText}
+
+-- A program that meets a refusal writes one line.
+abbrev pub refusedLine : Refusal → List ℕ
+refusedLine r = text "refused," ++ (decimal (r .number) ++ (comma ∷ (decimal (r .row) ++ lineBreak)))
+
+-- what is written of an order list that is read, and the refusal of one that isn't
+abbrev pub ofList : (Orders → List ℕ) → List ℕ → List ℕ
+ofList written file =
+    let x = readOrders file in
+    elim (eqb (x .number) 0) [ true ↦ written x | false ↦ refusedLine (refusal (x .number) (x .line)) ]
+
+-- The ribbon program writes the ribbon and CR LF, the sheet program the sheet.
+abbrev pub ribbonOutput : List ℕ → List ℕ
+ribbonOutput = ofList (λ x. ribbonFor turned (x .codes) ++ lineBreak)
+
+abbrev pub sheetOutput : List ℕ → List ℕ
+sheetOutput = ofList (λ x. sheetText (x .names) (x .codes))
+
+-- The check program deals with the order list before the ribbon file. It writes `held,` with the difference (a `-` before
+-- it when below zero), or `missing,` with the code's number, and CR LF.
+abbrev pub signed : ℤ → List ℕ
+signed (pos n) = decimal n
+signed (negsuc n) = text "-" ++ decimal (suc n)
+
+abbrev pub foundLine : ℤ → Missing → List ℕ
+foundLine difference none-missing = text "held," ++ (signed difference ++ lineBreak)
+foundLine difference (missing k) = text "missing," ++ (decimal k ++ lineBreak)
+
+abbrev pub checkedLine : List (List ℕ) → List ℕ → List ℕ
+checkedLine codes row =
+    let f = firstOf (when (ltb 16384 (length row)) longRibbon) (when (not (allBands row)) unknownColour) in
+    elim (eqb f 0) [
+      | true ↦ foundLine (less (length row) (length (ribbonFor turned codes))) (missingOn turned codes row)
+      | false ↦ refusedLine (whole f)
+    ]
+
+abbrev pub checkOutput : List ℕ → List ℕ → List ℕ
+checkOutput list ribbon = ofList (λ x. checkedLine (x .codes) (ribbonOf ribbon)) list
