@@ -4,7 +4,7 @@ use mathlib.Core.Path.{_≡_, refl, ap}
 use mathlib.Core.Logic.{inl}
 use mathlib.Core.Bool.{Bool, false, _&&_, not, _||_}
 use mathlib.Core.List.{List, [], _∷_, _++_, map}
-use Prim.Native.Nat.{ℕ, suc, _≤_}
+use Prim.Native.Nat.{ℕ, suc, _+_, _≤_}
 use native.Mathlib.Omega.{arith}
 use lib.Dec.{eqb, leb}
 use lib.ListN.{length}
@@ -15,7 +15,7 @@ use Rattle.words.specs.Stand.{StandsSomeWay, standsIn, someWay}
 use Rattle.words.specs.Texts.{text}
 use Rattle.words.proofs.Tests.{differ}
 use Rattle.words.proofs.Standing.{is-some-way}
-use Rattle.lists.specs.Runs.{flat}
+use Rattle.lists.specs.Runs.{flat, total, lengths}
 use Rattle.joins.specs.Rules.{Chosen}
 use Rattle.joins.proofs.Pieces.{flip}
 use Rattle.layout.specs.Dropping.{codeAt, Keeper, someBelow, without, outranks, kept}
@@ -146,6 +146,14 @@ not-nothing saved = wrong-ribbon _ _ apart refl
 pub not-invented : Layer (ribbonFor turned) (λ cs. suc (savedBy turned cs)) → ⊥
 unfolding turned
 not-invented = wrong-saving _ _ apart refl
+
+-- The sum catches it too: bands and saved no longer add up to the bands of the kept codes.
+pub not-invented-by-the-sum :
+    ((cs : List (List ℕ)) → length (ribbonFor turned cs) + suc (savedBy turned cs) ≡ total (lengths (kept turned cs))) → ⊥
+unfolding turned
+not-invented-by-the-sum h =
+    let e : 4 + 1 ≡ 4 = h apart in
+    omega arith
 
 -- Demand 3 catches the end-to-end layout too: it saves 0, and ABBBC is a rival of 5 bands for 9.
 abbrev row : List ℕ

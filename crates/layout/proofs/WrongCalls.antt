@@ -1,5 +1,5 @@
 -- Wrong calls that lay out a list, each written out and caught by the claim on a named list and buffer.
-use mathlib.Core.Path.{ap}
+use mathlib.Core.Path.{_≡_, ap}
 use mathlib.Core.Logic.{_≢_}
 use mathlib.Core.List.{List, [], _∷_, map}
 use Prim.Native.Nat.{ℕ}
@@ -74,3 +74,29 @@ cleared run ls buffer = layOutcome run ls (map (λ (b : ℕ). 0) buffer)
 pub not-cleared : LaysOut cleared → ⊥
 unfolding turned
 not-cleared = caught cleared (7 ∷ 7 ∷ 7 ∷ []) (byte 2) (λ e. omega arith)
+
+-- 13 before 12: on A1, which is no code, into no buffer; length and saved exchanged: on AB
+abbrev shortFirst : Call
+shortFirst run ls buffer =
+    pick
+    (ltb (length buffer) (length (ribbonFor turned (codesIn run ls))))
+    (outcome (refused (whole shortBuffer)) buffer)
+    (layOutcome run ls buffer)
+
+pub not-short-first : LaysOut shortFirst → ⊥
+unfolding turned
+not-short-first h =
+    let e : shortBuffer ≡ falseList = ap number (lays-out-only shortFirst h (text "A1") (2 ∷ []) []) in
+    omega arith
+
+abbrev exchanged : Call
+exchanged run ls buffer =
+    let o = layOutcome run ls buffer in
+    elim (o .answer) [ refused r ↦ o | laid b s ↦ outcome (laid s b) (o .after) ]
+
+abbrev bands : LayOutcome → ℕ
+bands o = elim (o .answer) [ refused r ↦ 0 | laid b s ↦ b ]
+
+pub not-exchanged : LaysOut exchanged → ⊥
+unfolding turned
+not-exchanged = caught exchanged (7 ∷ 7 ∷ []) bands (λ e. omega arith)

@@ -2,7 +2,7 @@
 -- All are one test with its limits and comparisons open: with the right ones it is ours, and with each wrong one it
 -- answers that list otherwise than ours.
 use mathlib.Core.Path.{_≡_, refl, sym, _∙_}
-use mathlib.Core.Bool.{Bool, true, false, _&&_, true≢false}
+use mathlib.Core.Bool.{Bool, true, false, _&&_, _||_, true≢false}
 use mathlib.Core.List.{List, [], _∷_}
 use Prim.Native.Nat.{ℕ}
 use lib.Dec.{eqb, leb}
@@ -10,7 +10,7 @@ use lib.ListN.{length, replicate}
 use Rattle.words.specs.Texts.{text}
 use Rattle.lists.specs.Runs.{codesIn, total}
 use Rattle.lists.specs.Rules.{ChecksCodes, ChecksNames}
-use Rattle.lists.specs.Fit.{all, nameOk, sumOk, allOnce, listOk, namesOk}
+use Rattle.lists.specs.Fit.{all, isBand, nameOk, sumOk, allOnce, listOk, namesOk}
 use Rattle.lists.proofs.Rules.{codes-only, names-only}
 
 -- Codes: at most so many; a length's least and most; how the lengths' sum compares with the run; the last band
@@ -54,9 +54,22 @@ not-after-Z = passes-wrongly _ (91 ∷ []) (1 ∷ []) refl refl
 pub not-every-refused : ChecksCodes (listBy 0 1 64 eqb 90) → ⊥
 not-every-refused = refuses-wrongly _ (text "A") (1 ∷ []) refl refl
 
--- the limits themselves pass: 128 codes of one band, and one code of 64 bands
+-- The limits themselves: 128 codes and 64 bands pass; A and Z are bands, the bytes before and after them are none.
 pub limits-pass : (listOk (replicate 128 65) (replicate 128 1) && listOk (replicate 64 65) (64 ∷ [])) ≡ true
 limits-pass = refl
+
+pub bands-are : (isBand 65 && isBand 90) ≡ true
+bands-are = refl
+
+pub bands-end : (isBand 64 || isBand 91) ≡ false
+bands-end = refl
+
+-- Names of 1 and 24 bytes pass, of 0 and 25 they don't; bytes hexadecimal 20 and 7E pass, 1F and 7F don't.
+pub names-pass : (nameOk (replicate 1 32) && nameOk (replicate 24 126)) ≡ true
+names-pass = refl
+
+pub names-end : (nameOk [] || (nameOk (replicate 25 65) || (nameOk (31 ∷ []) || nameOk (127 ∷ [])))) ≡ false
+names-end = refl
 
 -- Names: how their number compares with that of the codes, and how often one may be used
 abbrev namesBy : (ℕ → ℕ → Bool) → (List (List ℕ) → Bool) → ℕ → List ℕ → List ℕ → Bool

@@ -25,9 +25,9 @@ use Rattle.layout.specs.Layout.{ribbonFor}
 use Rattle.layout.proofs.Claims.{lays-ours, lays-only, each-laid}
 use Rattle.layout.proofs.Laying.{never-stuck-rule}
 use Rattle.places.specs.Check.{Missing, none-missing, missing, IsMissing, all-held, lowest, missingOn}
-use Rattle.places.specs.Answers.{PlaceRecord, recordsFrom, less, CheckOutcome, refused, missing-code, held, checkOutcome}
-use Rattle.places.specs.Answers.{Difference, more, fewer, AreRecords, Fit, ChecksInto, false-list, long-ribbon, no-colour}
-use Rattle.places.specs.Answers.{no-join, no-place, short-buffer, filled, Checks}
+use Rattle.places.specs.Answers.{PlaceRecord, CheckOutcome, refused, missing-code, held, Difference, more, fewer}
+use Rattle.places.specs.Answers.{AreRecords, Fit, ChecksInto, false-list, long-ribbon, no-colour, no-join}
+use Rattle.places.specs.Answers.{no-place, short-buffer, filled, Checks, less, recordsFrom, checkOutcome}
 use Rattle.places.proofs.Check.{misses-ours, missing-one}
 
 difference : (a b : ℕ) → Difference a b (less a b)
@@ -48,37 +48,47 @@ module _ (run ls row : List ℕ) (records : List PlaceRecord) where
   -- ours by its tests: of the list, of the ribbon's length and bands, of being stuck, of missing codes, of the records
   abbrev byTests : Bool → Bool → Bool → Bool → Missing → Bool → CheckOutcome
   byTests bad long ok st m short =
-      let f = firstOf (when bad falseList) (firstOf (when long longRibbon) (firstOf (when (not ok) unknownColour) (when st stuck))) in
+      let f = firstOf (when bad falseList)
+      (firstOf (when long longRibbon) (firstOf (when (not ok) unknownColour) (when st stuck))) in
       elim (eqb f 0) [
         | false ↦ outcome (refused (whole f)) records
         | true ↦ elim m [
           | missing k ↦ outcome (missing-code k) records
           | none-missing ↦ elim short [
             | true ↦ outcome (refused (whole shortBuffer)) records
-            | false ↦ outcome (held (less (length row) (length (ribbonFor turned cs)))) (over (recordsFrom 0 cs row) records)
+            | false ↦
+                outcome (held (less (length row) (length (ribbonFor turned cs)))) (over (recordsFrom 0 cs row) records)
           ]
         ]
       ]
 
+  -- no list gets stuck
   as-tested : checkOutcome run ls row records
-      ≡ byTests (not (listOk run ls)) (ltb 16384 (length row)) (allBands row) false (missingOn turned cs row) (ltb (length records) (length ls))
+      ≡ byTests (not (listOk run ls)) (ltb 16384 (length row)) (allBands row) false
+      (missingOn turned cs row) (ltb (length records) (length ls))
   as-tested =
-      ap (λ (st : Bool). byTests (not (listOk run ls)) (ltb 16384 (length row)) (allBands row) st (missingOn turned cs row) (ltb (length records) (length ls)))
+      ap (λ (st : Bool).
+      byTests (not (listOk run ls)) (ltb 16384 (length row)) (allBands row) st
+      (missingOn turned cs row) (ltb (length records) (length ls)))
       (each-laid turned turning cs .never-found-stuck)
 
+  -- Ours meets it.
   meets : {bad long ok short : Bool} {m : Missing} → Decides (FalseCodes run ls) bad → Decides (16384 < length row) long
       → Decides (Each Band row) ok → IsMissing turned cs row m → Decides (length records < length ls) short
       → ChecksInto run ls row records (byTests bad long ok false m short)
   meets (yes f) l b m s = false-list f
   meets (no fit) (yes l) b m s = long-ribbon fit l
   meets (no fit) (no l) (no b) m s = no-colour fit (not-lt l) b
-  meets (no fit) (no l) (yes b) (lowest k x f) s =
-      no-place (record { list = fit; long = not-lt l; bands = b }) (lowest k x f)
-  meets (no fit) (no l) (yes b) (all-held a) (yes s) =
-      short-buffer (record { list = fit; long = not-lt l; bands = b }) a s
-  meets (no fit) (no l) (yes b) (all-held a) (no s) =
-      filled (recordsFrom 0 cs row) (record { list = fit; long = not-lt l; bands = b }) a (not-lt s) (lays-ours turned cs)
-      (difference (length row) (length (ribbonFor turned cs))) (are-records 0 cs row)
+  meets (no fit) (no l) (yes b) m s = go (record { list = fit; long = not-lt l; bands = b }) m s
+    where
+      go : {short : Bool} {m : Missing} → Fit run ls row → IsMissing turned cs row m
+          → Decides (length records < length ls) short
+          → ChecksInto run ls row records (byTests false false true false m short)
+      go F (lowest k x f) s = no-place F (lowest k x f)
+      go F (all-held a) (yes s) = short-buffer F a s
+      go F (all-held a) (no s) =
+          filled (recordsFrom 0 cs row) F a (not-lt s) (lays-ours turned cs)
+          (difference (length row) (length (ribbonFor turned cs))) (are-records 0 cs row)
 
 pub checks-ours : Checks checkOutcome
 checks-ours run ls row records =
@@ -113,37 +123,37 @@ module _ (run ls row : List ℕ) (records : List PlaceRecord) where
   m-ours : IsMissing turned (codesIn run ls) row (missingOn turned (codesIn run ls) row)
   m-ours = misses-ours turned (codesIn run ls) row
 
-  if-fit : Fit run ls row records → (m : Missing) (short : Bool) → missingOn turned (codesIn run ls) row ≡ m
-      → ltb (length records) (length ls) ≡ short → checkOutcome run ls row records ≡ byTests run ls row records false false true false m short
+  if-fit : Fit run ls row → (m : Missing) (short : Bool) → missingOn turned (codesIn run ls) row ≡ m
+      → ltb (length records) (length ls) ≡ short
+      → checkOutcome run ls row records ≡ byTests run ls row records false false true false m short
   if-fit F m short d e =
       if-tests false false true short m (refuses (is-false-codes run ls) (F .list))
       (refuses (is-lt 16384 (length row)) (λ h. omega (arith, F .long))) (passes (all-bands row) (F .bands)) d e
 
   into-only : {o : CheckOutcome} → ChecksInto run ls row records o → o ≡ checkOutcome run ls row records
-  into-only (false-list f) =
-      sym (if-tests true (ltb 16384 (length row)) (allBands row) (ltb (length records) (length ls)) (missingOn turned (codesIn run ls) row)
-      (passes (is-false-codes run ls) f) refl refl refl refl)
+  into-only (false-list f) = sym (if-tests true _ _ _ _ (passes (is-false-codes run ls) f) refl refl refl refl)
   into-only (long-ribbon fit l) =
-      sym (if-tests false true (allBands row) (ltb (length records) (length ls)) (missingOn turned (codesIn run ls) row)
-      (refuses (is-false-codes run ls) fit) (passes (is-lt 16384 (length row)) l) refl refl refl)
+      let no-list = refuses (is-false-codes run ls) fit in
+      sym (if-tests false true _ _ _ no-list (passes (is-lt 16384 (length row)) l) refl refl refl)
   into-only (no-colour fit l b) =
-      sym (if-tests false false false (ltb (length records) (length ls)) (missingOn turned (codesIn run ls) row)
-      (refuses (is-false-codes run ls) fit) (refuses (is-lt 16384 (length row)) (λ h. omega arith))
-      (refuses (all-bands row) b) refl refl)
+      let no-list = refuses (is-false-codes run ls) fit in
+      let not-long = refuses (is-lt 16384 (length row)) (λ h. omega arith) in
+      sym (if-tests false false false _ _ no-list not-long (refuses (all-bands row) b) refl refl)
   into-only (no-join F s) = absurd (never-stuck-rule s)
-  into-only (no-place {k} F x) =
-      sym (if-fit F (missing k) (ltb (length records) (length ls)) (missing-one m-ours x) refl)
+  into-only (no-place {k} F x) = sym (if-fit F (missing k) _ (missing-one m-ours x) refl)
   into-only (short-buffer F a l) =
-      sym (if-fit F none-missing true (missing-one m-ours (all-held a)) (passes (is-lt (length records) (length ls)) l))
+      let short = passes (is-lt (length records) (length ls)) l in
+      sym (if-fit F none-missing true (missing-one m-ours (all-held a)) short)
   into-only (filled {ribbon} {saved} {d} rs F a l x y z) =
-      let e = lays-only turned x in
-      let g : Difference (length row) (length (ribbonFor turned (codesIn run ls))) d =
-      subst (λ (r : List ℕ). Difference (length row) (length r) d) (e .0) y in
-      ap₂ (λ (v : ℤ) (w : List PlaceRecord). outcome (held v) (over w records))
-      (difference-one g (difference (length row) (length (ribbonFor turned (codesIn run ls)))))
-      (records-one 0 (codesIn run ls) row rs _ z (are-records 0 (codesIn run ls) row))
-      ∙ sym (if-fit F none-missing false (missing-one m-ours (all-held a)) (refuses (is-lt (length records) (length ls)) (λ h. omega arith)))
+      let computed = ribbonFor turned (codesIn run ls) in
+      let g : Difference (length row) (length computed) d =
+      subst (λ (r : List ℕ). Difference (length row) (length r) d) (lays-only turned x .0) y in
+      let e = difference-one g (difference (length row) (length computed)) in
+      let f = records-one 0 (codesIn run ls) row rs _ z (are-records 0 (codesIn run ls) row) in
+      let roomy = refuses (is-lt (length records) (length ls)) (λ h. omega arith) in
+      ap₂ (λ (v : ℤ) (w : List PlaceRecord). outcome (held v) (over w records)) e f
+      ∙ sym (if-fit F none-missing false (missing-one m-ours (all-held a)) roomy)
 
-pub checks-only : (call : List ℕ → List ℕ → List ℕ → List PlaceRecord → CheckOutcome) → Checks call → (run ls row : List ℕ)
-    (records : List PlaceRecord) → call run ls row records ≡ checkOutcome run ls row records
+pub checks-only : (call : List ℕ → List ℕ → List ℕ → List PlaceRecord → CheckOutcome) → Checks call
+    → (run ls row : List ℕ) (records : List PlaceRecord) → call run ls row records ≡ checkOutcome run ls row records
 checks-only call h run ls row records = into-only run ls row records (h run ls row records)

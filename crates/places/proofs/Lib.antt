@@ -2,3 +2,4 @@
 pub mod Check
 pub mod Answers
 pub mod Impostors
+pub mod WrongCalls

@@ -1,0 +1,111 @@
+-- Wrong calls that check a ribbon, each written out and caught by the claim on a named list, ribbon and records.
+use mathlib.Core.Path.{ap}
+use mathlib.Core.Logic.{_≢_}
+use mathlib.Core.Bool.{_&&_, not}
+use mathlib.Core.List.{List, [], _∷_}
+use Prim.Native.Nat.{ℕ}
+use native.Mathlib.Omega.{arith}
+use lib.Dec.{eqb, ltb}
+use lib.IntN.{pos, negsuc}
+use lib.ListN.{length, replicate}
+use Rattle.words.specs.Tests.{pick}
+use Rattle.words.specs.Texts.{text}
+use Rattle.words.specs.Turn.{turned}
+use Rattle.words.specs.Place.{given-at}
+use Rattle.lists.specs.Refusals.{whole, longRibbon, unknownColour, shortBuffer}
+use Rattle.lists.specs.Outcome.{outcome}
+use Rattle.lists.specs.Runs.{codesIn, over}
+use Rattle.lists.specs.Fit.{allBands}
+use Rattle.layout.specs.Layout.{ribbonFor}
+use Rattle.places.specs.Answers.{PlaceRecord, CheckOutcome, refused, missing-code, held, Checks, less, recordsFrom}
+use Rattle.places.specs.Answers.{checkOutcome}
+use Rattle.places.proofs.Answers.{checks-only}
+
+abbrev Call : Type 0
+Call = List ℕ → List ℕ → List ℕ → List PlaceRecord → CheckOutcome
+
+-- so many records of a code 7 at 7
+abbrev sevens : ℕ → List PlaceRecord
+sevens n = replicate n (record { code = 7; place = given-at 7 })
+
+-- the list AB, with a given ribbon and so many records
+caught : (call : Call) (row : List ℕ) (n : ℕ) (look : CheckOutcome → ℕ)
+    → look (call (text "AB") (2 ∷ []) row (sevens n)) ≢ look (checkOutcome (text "AB") (2 ∷ []) row (sevens n))
+    → Checks call → ⊥
+caught call row n look d h = d (ap look (checks-only call h (text "AB") (2 ∷ []) row (sevens n)))
+
+-- what an answer is, as a number: a refusal's, 100 for missing, 200 for held and 300 for held below zero
+abbrev kind : CheckOutcome → ℕ
+kind o = elim (o .answer) [ refused r ↦ r .number | missing-code k ↦ 100 | held (pos n) ↦ 200 | held (negsuc n) ↦ 300 ]
+
+abbrev firstCode : CheckOutcome → ℕ
+firstCode o = elim (o .after) [ [] ↦ 0 | r ∷ rs ↦ r .code ]
+
+-- the difference the wrong way round; on ABC
+abbrev backwards : Call
+backwards run ls row records =
+    let o = checkOutcome run ls row records in
+    elim (o .answer) [
+      | refused r ↦ o
+      | missing-code k ↦ o
+      | held d ↦ outcome (held (less (length (ribbonFor turned (codesIn run ls))) (length row))) (o .after)
+    ]
+
+pub not-backwards : Checks backwards → ⊥
+unfolding turned
+not-backwards = caught backwards (text "ABC") 1 kind (λ e. omega arith)
+
+-- records numbered from 1; records untouched
+abbrev fromOne : Call
+fromOne run ls row records =
+    outcome (checkOutcome run ls row records .answer) (over (recordsFrom 1 (codesIn run ls) row) records)
+
+pub not-from-one : Checks fromOne → ⊥
+unfolding turned
+not-from-one = caught fromOne (text "AB") 1 firstCode (λ e. omega arith)
+
+abbrev untouched : Call
+untouched run ls row records = outcome (checkOutcome run ls row records .answer) records
+
+pub not-untouched : Checks untouched → ⊥
+unfolding turned
+not-untouched = caught untouched (text "AB") 1 firstCode (λ e. omega arith)
+
+-- a record touched where a code is missing; on no bands
+abbrev touchedMissing : Call
+touchedMissing run ls row records =
+    outcome (checkOutcome run ls row records .answer) (over (recordsFrom 0 (codesIn run ls) row) records)
+
+pub not-touched-missing : Checks touchedMissing → ⊥
+unfolding turned
+not-touched-missing = caught touchedMissing [] 1 firstCode (λ e. omega arith)
+
+-- 13 given where a code is missing; on no bands and with no records
+abbrev shortFirst : Call
+shortFirst run ls row records =
+    pick (ltb (length records) (length ls)) (outcome (refused (whole shortBuffer)) records) (checkOutcome run ls row records)
+
+pub not-short-first : Checks shortFirst → ⊥
+unfolding turned
+not-short-first = caught shortFirst [] 0 kind (λ e. omega arith)
+
+-- 8 before 15; on 16,385 bytes that are no bands
+abbrev colourFirst : Call
+colourFirst run ls row records =
+    pick
+    (ltb 16384 (length row) && not (allBands row))
+    (outcome (refused (whole unknownColour)) records)
+    (checkOutcome run ls row records)
+
+pub not-colour-first : Checks colourFirst → ⊥
+unfolding turned
+not-colour-first = caught colourFirst (replicate 16385 0) 1 kind (λ e. omega arith)
+
+-- 15 from 16,384 bands on; on as many As
+abbrev longFrom16384 : Call
+longFrom16384 run ls row records =
+    pick (eqb (length row) 16384) (outcome (refused (whole longRibbon)) records) (checkOutcome run ls row records)
+
+pub not-long-from-16384 : Checks longFrom16384 → ⊥
+unfolding turned
+not-long-from-16384 = caught longFrom16384 (replicate 16384 65) 1 kind (λ e. omega arith)
