@@ -9,7 +9,7 @@ use native.Mathlib.Decide.{decLe}
 use native.Mathlib.Nat.{le-antisymm}
 use lib.ListN.{length}
 use Rattle.words.specs.Lists.{In}
-use Rattle.joins.specs.Faces.{Join, joined}
+use Rattle.joins.specs.Faces.{Join, joinBoth}
 use Rattle.joins.specs.Rules.{IsPiece, Allowed, Chosen, Run, start, round, Joins, Joiner}
 use Rattle.joins.specs.Rounds.{layoutOf}
 use Rattle.joins.proofs.Ruled.{piece-of, same-piece}
@@ -49,7 +49,7 @@ module _ {n : ℕ} {w : ℕ → ℕ → ℕ} where
       tie′ = subst (λ (f : ℕ). w c d ≡ w f b) first as-large
 
   round-one : {js ls : List Join} {a b c d : ℕ} → js ≡ ls → Chosen n w js a b → Chosen n w ls c d
-      → joined a b js ≡ joined c d ls
+      → joinBoth a b js ≡ joinBoth c d ls
   round-one {c = c} {d = d} e x y =
       let r = chosen-one x (subst (λ (l : List Join). Chosen n w l c d) (sym e) y) in
       cc (r .0, r .1)
@@ -66,10 +66,10 @@ module _ {n : ℕ} {w : ℕ → ℕ → ℕ} where
 
   -- no run goes on after one that is done
   more-one : {js ls : List Join} {a b : ℕ} → Joins (Chosen n w) n js → Run (Chosen n w) ls → Chosen n w ls a b
-      → length js ≤ suc (suc (length ls)) → (length js ≤ length ls → js ≡ ls) → js ≡ joined a b ls
+      → length js ≤ suc (suc (length ls)) → (length js ≤ length ls → js ≡ ls) → js ≡ joinBoth a b ls
   more-one {js} {ls} {a} {b} x r c l ih = go (decLe (length js) (length ls))
     where
-      go : Dec (length js ≤ length ls) → js ≡ joined a b ls
+      go : Dec (length js ≤ length ls) → js ≡ joinBoth a b ls
       go (yes h) =
           let d = subst (λ (l : List Join). Chosen n w l a b) (sym (ih h)) c in
           absurd (finished (all-allowed (all-largest (x .rounds))) (x .remains) (d .largest .allowed))

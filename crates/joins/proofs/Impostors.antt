@@ -12,7 +12,7 @@ use Rattle.words.specs.Turn.{turned}
 use Rattle.words.specs.Overlap.{overlap}
 use Rattle.words.specs.Texts.{text}
 use Rattle.words.proofs.Tests.{differ}
-use Rattle.joins.specs.Faces.{mirror, Join, join, joined}
+use Rattle.joins.specs.Faces.{mirror, Join, join, joinBoth}
 use Rattle.joins.specs.Rules.{Joiner}
 use Rattle.joins.specs.Rounds.{endsPiece, beginsPiece, endFrom, allowed, lower, key, overlapBy, better}
 use Rattle.joins.specs.Rounds.{Best, none, best, bestOf, below, pairs, bestJoin, roundsFrom, layoutOf}
@@ -45,7 +45,7 @@ right =
       allows = allowed;
       prefers = λ w js. better w;
       stops = λ w j. false;
-      records = λ j js. joined (j .left) (j .right) js;
+      records = λ j js. joinBoth (j .left) (j .right) js;
     }
 
 abbrev allowing : (ℕ → List Join → Join → Bool) → Planner
@@ -71,7 +71,7 @@ right-is-ours n w = from (n - 1) []
             → ((ls : List Join) → planFrom f right n w ls ≡ roundsFrom f n w ls .joins)
             → planFrom (suc f) right n w js ≡ roundsFrom (suc f) n w js .joins
         go none e later = rw (e, planFrom, roundsFrom)
-        go (best j) e later = rw (e, planFrom, roundsFrom) (later (joined (j .left) (j .right) js))
+        go (best j) e later = rw (e, planFrom, roundsFrom) (later (joinBoth (j .left) (j .right) js))
 
 -- Named lists of codes: face 2k is code k as given, 2k + 1 the same turned.
 abbrev faceOf : List (List ℕ) → ℕ → List ℕ

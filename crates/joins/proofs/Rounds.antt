@@ -7,7 +7,7 @@ use Prim.Native.Nat.{ℕ, zero, suc, _+_, _-_, _*_, _≤_}
 use native.Mathlib.Omega.{arith}
 use lib.ListN.{length}
 use Rattle.words.proofs.Deciding.{holds, fails, passes, not-lt}
-use Rattle.joins.specs.Faces.{Join, join, joined, headOf, lastOf}
+use Rattle.joins.specs.Faces.{Join, join, joinBoth, headOf, lastOf}
 use Rattle.joins.specs.Rules.{Allowed, Largest, Chosen, Run, start, round, Remains, Joins}
 use Rattle.joins.specs.Rounds.{allowed, Best, none, best, pairs, below, bestJoin, Layout, roundsFrom, layoutOf}
 use Rattle.joins.proofs.State.{State}
@@ -88,7 +88,7 @@ module _ (n : ℕ) (w : ℕ → ℕ → ℕ) where
           absurd (not-none r (R r .pieces) (R r .state) (omega (arith, R r .count)) h)
       go (best j) q s later =
           let b = subst (Searched (comparison w) (allowed n js) tried) q s in
-          let o : roundsFrom (suc f) n w js ≡ roundsFrom f n w (joined (j .left) (j .right) js) = rw (q, roundsFrom) in
+          let o : roundsFrom (suc f) n w js ≡ roundsFrom f n w (joinBoth (j .left) (j .right) js) = rw (q, roundsFrom) in
           rw o (later _ (round r (chosen r j b)) (omega arith))
 
 -- no codes: nothing is joined, and nothing is left

@@ -9,7 +9,7 @@ use native.Mathlib.Omega.{arith}
 use native.Mathlib.Decide.{ℕ-discrete}
 use lib.ListN.{length}
 use Rattle.words.specs.Lists.{In}
-use Rattle.joins.specs.Faces.{mirror, Join, joined, headOf, lastOf}
+use Rattle.joins.specs.Faces.{mirror, Join, joinBoth, headOf, lastOf}
 use Rattle.joins.specs.Rules.{Joined, Chain, IsPiece, Allowed, Run, start, round}
 use Rattle.joins.specs.Rounds.{afterIn, endFrom}
 use Rattle.joins.proofs.Mirrors.{mirror-mirror}
@@ -74,7 +74,7 @@ module _ {n : ℕ} where
       apart : f ≡ a → f ≡ mirror b → ⊥
       apart d e = c .unmirrored (sym (ap mirror (sym d ∙ e) ∙ mirror-mirror b))
 
-      go : Joined (joined a b js) f g → Joined (joined a b js) f h → (Joined js f g → Joined js f h → g ≡ h) → g ≡ h
+      go : Joined (joinBoth a b js) f g → Joined (joinBoth a b js) f h → (Joined js f g → Joined js f h → g ≡ h) → g ≡ h
       go (inl d) (inl e) ih = d .1 ∙ sym (e .1)
       go (inl d) (inr (inl e)) ih = absurd (apart (d .0) (e .0))
       go (inl d) (inr (inr z)) ih = absurd (no-a h (d .0) z)

@@ -7,7 +7,7 @@ use Prim.Native.Nat.{ℕ, zero, suc, _+_, _*_, _/_, _≤_, _<_}
 use native.Mathlib.Omega.{arith}
 use lib.ListN.{length}
 use Rattle.words.specs.Lists.{In}
-use Rattle.joins.specs.Faces.{mirror, Join, joined, headOf, lastOf}
+use Rattle.joins.specs.Faces.{mirror, Join, joinBoth, headOf, lastOf}
 use Rattle.joins.specs.Rules.{IsPiece, Allowed, Largest, Run, start, round, Remains, Joins, along}
 use Rattle.joins.proofs.Sums.{sum}
 use Rattle.joins.proofs.Pieces.{flip, flip-flip, head-flip, in-head, in-last, in-flip, times-in}
@@ -37,7 +37,7 @@ all-allowed r = run-map (λ ls a b c. c .allowed) r
 module _ {n : ℕ} {w : ℕ → ℕ → ℕ} where
   -- one round more
   next : {js : List Join} {a b : ℕ} → Run (Allowed n) js → Largest n w js a b → Reached n w js
-      → Reached n w (joined a b js)
+      → Reached n w (joinBoth a b js)
   next {js} {a} {b} r c R =
       record {
         pieces = (p ++ q) ∷ M .others;
@@ -61,8 +61,8 @@ module _ {n : ℕ} {w : ℕ → ℕ → ℕ} where
       S : State n js (p ∷ (q ∷ M .others))
       S = state-arr (R .state) (M .first)
 
-      e : joined (lastOf p) (headOf q) js ≡ joined a b js
-      e = ap₂ (λ x y. joined x y js) (M .last-is) (M .head-is)
+      e : joinBoth (lastOf p) (headOf q) js ≡ joinBoth a b js
+      e = ap₂ (λ x y. joinBoth x y js) (M .last-is) (M .head-is)
 
       made : meet w p q ≡ w a b
       made = meet-some w p q (S .pieces .0 .some) (S .pieces .1 .0 .some) ∙ ap₂ w (M .last-is) (M .head-is)

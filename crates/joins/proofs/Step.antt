@@ -6,7 +6,7 @@ use mathlib.Core.List.{List, [], _∷_, _++_}
 use Prim.Native.Nat.{ℕ, suc, _/_, _≤_}
 use native.Mathlib.Omega.{arith}
 use Rattle.words.specs.Lists.{In, Each}
-use Rattle.joins.specs.Faces.{mirror, Join, join, joined, headOf, lastOf}
+use Rattle.joins.specs.Faces.{mirror, Join, join, joinBoth, headOf, lastOf}
 use Rattle.joins.specs.Rounds.{afterIn}
 use Rattle.joins.proofs.Sums.{sum, sum-append}
 use Rattle.joins.proofs.Mirrors.{mirror-mirror, mirror-half, mirror-ne}
@@ -17,30 +17,30 @@ use Rattle.joins.proofs.State.{State, state-most, state-differ, state-c
 
 module _ (a b : ℕ) (js : List Join) where
   -- other faces are as before
-  after-same : (f : ℕ) → f ≢ a → f ≢ mirror b → afterIn f (joined a b js) ≡ afterIn f js
+  after-same : (f : ℕ) → f ≢ a → f ≢ mirror b → afterIn f (joinBoth a b js) ≡ afterIn f js
   after-same f u v = after-not f a b (join (mirror b) (mirror a) ∷ js) u ∙ after-not f (mirror b) (mirror a) js v
 
   -- and so are faces of other codes
-  after-other : (f : ℕ) → f / 2 ≢ a / 2 → f / 2 ≢ b / 2 → afterIn f (joined a b js) ≡ afterIn f js
+  after-other : (f : ℕ) → f / 2 ≢ a / 2 → f / 2 ≢ b / 2 → afterIn f (joinBoth a b js) ≡ afterIn f js
   after-other f u v =
       after-same f (λ e. u (ap (λ (x : ℕ). x / 2) e)) (λ e. v (ap (λ (x : ℕ). x / 2) e ∙ mirror-half b))
 
   module _ (open-a : afterIn a js ≡ 0) (open-b : afterIn (mirror b) js ≡ 0) where
     -- what was linked stays linked
-    after-kept : (f g : ℕ) → afterIn f js ≡ suc g → afterIn f (joined a b js) ≡ suc g
+    after-kept : (f g : ℕ) → afterIn f js ≡ suc g → afterIn f (joinBoth a b js) ≡ suc g
     after-kept f g l = after-same f (not-open a open-a) (not-open (mirror b) open-b) ∙ l
       where
         not-open : (x : ℕ) → afterIn x js ≡ 0 → f ≢ x
         not-open x o e = omega (arith, ap (λ (y : ℕ). afterIn y js) e)
 
-    linked-kept : (p : List ℕ) → Linked js p → Linked (joined a b js) p
+    linked-kept : (p : List ℕ) → Linked js p → Linked (joinBoth a b js) p
     linked-kept [] r = tt
     linked-kept (f ∷ []) r = tt
     linked-kept (f ∷ (g ∷ p)) r =
         ((after-kept f g (r .0 .0), after-kept (mirror g) (mirror f) (r .0 .1)), linked-kept (g ∷ p) (r .1))
 
     -- a piece without the two codes stays a piece
-    piece-kept : (r : List ℕ) → timesOf (a / 2) r ≡ 0 → timesOf (b / 2) r ≡ 0 → Piece js r → Piece (joined a b js) r
+    piece-kept : (r : List ℕ) → timesOf (a / 2) r ≡ 0 → timesOf (b / 2) r ≡ 0 → Piece js r → Piece (joinBoth a b js) r
     piece-kept r u v h =
         record {
           some = h .some;
@@ -65,7 +65,7 @@ module _ (a b : ℕ) (js : List Join) where
         other c none e = absent c none (headOf r) first (half ∙ e)
 
     pieces-kept : (R : List (List ℕ)) → sum (timesOf (a / 2)) R ≡ 0 → sum (timesOf (b / 2)) R ≡ 0
-        → Each (Piece js) R → Each (Piece (joined a b js)) R
+        → Each (Piece js) R → Each (Piece (joinBoth a b js)) R
     pieces-kept [] u v h = tt
     pieces-kept (r ∷ R) u v h =
         (piece-kept r (omega arith) (omega arith) (h .0), pieces-kept R (omega arith) (omega arith) (h .1))
@@ -105,45 +105,45 @@ module _ {K : ℕ} {js : List Join} (p q : List ℕ) {R : List (List ℕ)} (i : 
   back : {f g : ℕ} → mirror f ≡ g → f ≡ mirror g
   back {f} e = sym (mirror-mirror f) ∙ ap mirror e
 
-  new : Link (joined a b js) a b
+  new : Link (joinBoth a b js) a b
   new =
       let rest = join (mirror b) (mirror a) ∷ js in
       let other : mirror b ≢ a = λ e. state-cross i a b a-in b-in (back e) in
       let on = after-not (mirror b) a b rest other ∙ after-yes (mirror b) (mirror b) (mirror a) js refl in
       (after-yes a a b rest refl, on)
 
-  starts-kept : afterIn (mirror (headOf p)) (joined a b js) ≡ 0
+  starts-kept : afterIn (mirror (headOf p)) (joinBoth a b js) ≡ 0
   starts-kept =
       let no-a = ends-apart p (left .some) (λ k. omega (arith, state-most i k)) in
       let no-b = state-differ i (headOf p) b (in-head p (left .some)) b-in in
       after-same a b js (mirror (headOf p)) (λ e. no-a (back e)) (λ e. no-b (back e ∙ mirror-mirror b)) ∙ left .starts
 
-  ends-kept : afterIn (lastOf q) (joined a b js) ≡ 0
+  ends-kept : afterIn (lastOf q) (joinBoth a b js) ≡ 0
   ends-kept =
       let no-a = state-differ i a (lastOf q) a-in (in-last q (right .some)) in
       let no-b = ends-apart q (right .some) (λ k. omega (arith, state-most i k)) in
       after-same a b js (lastOf q) (λ e. no-a (sym e)) (λ e. no-b (back (sym e))) ∙ right .ends
 
-  kept : (r : List ℕ) → Linked js r → Linked (joined a b js) r
+  kept : (r : List ℕ) → Linked js r → Linked (joinBoth a b js) r
   kept = linked-kept a b js (left .ends) (right .starts)
 
-  whole : Piece (joined a b js) (p ++ q)
+  whole : Piece (joinBoth a b js) (p ++ q)
   whole =
       let l = kept p (left .linked) in
       let r = kept q (right .linked) in
       record {
         some = some-left p q (left .some);
-        linked = linked-append (joined a b js) p q (left .some) (right .some) l r new;
-        starts = ap (λ (x : ℕ). afterIn (mirror x) (joined a b js)) (head-append p q (left .some)) ∙ starts-kept;
-        ends = ap (λ (x : ℕ). afterIn x (joined a b js)) (last-append p q (right .some)) ∙ ends-kept;
+        linked = linked-append (joinBoth a b js) p q (left .some) (right .some) l r new;
+        starts = ap (λ (x : ℕ). afterIn (mirror x) (joinBoth a b js)) (head-append p q (left .some)) ∙ starts-kept;
+        ends = ap (λ (x : ℕ). afterIn x (joinBoth a b js)) (last-append p q (right .some)) ∙ ends-kept;
       }
 
-  others : Each (Piece (joined a b js)) R
+  others : Each (Piece (joinBoth a b js)) R
   others =
       let no-a : sum (timesOf (a / 2)) R ≡ 0 = omega (arith, state-most i (a / 2), in-times a p a-in) in
       let no-b : sum (timesOf (b / 2)) R ≡ 0 = omega (arith, state-most i (b / 2), in-times b q b-in) in
       pieces-kept a b js (left .ends) (right .starts) R no-a no-b (i .pieces .1 .1)
 
-  pub state-step : State K (joined a b js) ((p ++ q) ∷ R)
+  pub state-step : State K (joinBoth a b js) ((p ++ q) ∷ R)
   state-step =
       record { pieces = (whole, others); codes = λ u e. omega (arith, i .codes u e, sum-append u p q) }

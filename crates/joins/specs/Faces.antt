@@ -18,8 +18,8 @@ abbrev pub join : ℕ → ℕ → Join
 join a b = record { left = a; right = b }
 
 -- The joins made, the latest first: the join from a to b and its mirror, from b's mirror to a's mirror, are both made.
-abbrev pub joined : ℕ → ℕ → List Join → List Join
-joined a b js = join a b ∷ (join (mirror b) (mirror a) ∷ js)
+abbrev pub joinBoth : ℕ → ℕ → List Join → List Join
+joinBoth a b js = join a b ∷ (join (mirror b) (mirror a) ∷ js)
 
 -- the first and the last face of a piece (a path)
 abbrev pub headOf : List ℕ → ℕ

@@ -4,7 +4,7 @@ use mathlib.Core.List.{List, [], _∷_, _++_, map}
 use Prim.Native.Nat.{ℕ, zero, suc, _-_, _*_}
 use lib.Dec.{eqb, ltb}
 use Rattle.words.specs.Tests.{pick}
-use Rattle.joins.specs.Faces.{mirror, Join, join, joined}
+use Rattle.joins.specs.Faces.{mirror, Join, join, joinBoth}
 
 -- the face after f, plus 1; 0 where f ends a piece
 abbrev pub afterIn : ℕ → List Join → ℕ
@@ -91,7 +91,7 @@ abbrev pub roundsFrom : ℕ → ℕ → (ℕ → ℕ → ℕ) → List Join → 
 roundsFrom zero n w js = layout false js
 roundsFrom (suc f) n w js = elim (bestJoin n w js) [
   | none ↦ layout true js
-  | best j ↦ roundsFrom f n w (joined (j .left) (j .right) js)
+  | best j ↦ roundsFrom f n w (joinBoth (j .left) (j .right) js)
 ]
 
 abbrev pub layoutOf : ℕ → (ℕ → ℕ → ℕ) → Layout
