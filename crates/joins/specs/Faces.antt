@@ -5,7 +5,7 @@ use lib.Dec.{eqb}
 use Rattle.words.specs.Tests.{pick}
 
 -- Kept code k has two faces (vertices of the overlap graph): 2k as given, 2k + 1 turned. The mirror of a face is the
--- other face of the same code.
+-- other face of the same code (the reversed vertex).
 abbrev pub mirror : ℕ → ℕ
 mirror f = pick (eqb (f % 2) 0) (suc f) (f - 1)
 

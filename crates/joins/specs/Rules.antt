@@ -66,7 +66,7 @@ pub record Joins (Picks : List Join → ℕ → ℕ → Type 0) (n : ℕ) (js : 
 abbrev pub Joiner : (ℕ → (ℕ → ℕ → ℕ) → List Join) → Type 0
 Joiner make = (n : ℕ) (w : ℕ → ℕ → ℕ) → Joins (Chosen n w) n (make n w)
 
--- what a piece saves: the sum of the overlaps along it
+-- what a piece saves (a path's weight): the sum of the overlaps along it
 abbrev pub along : (ℕ → ℕ → ℕ) → List ℕ → ℕ
 along w [] = 0
 along w (f ∷ []) = 0

@@ -45,8 +45,8 @@ pub record Stuck (turn : List ℕ → List ℕ) (cs : List (List ℕ)) : Type 0 
 abbrev pub AllStand : (List ℕ → List ℕ) → List (List ℕ) → List ℕ → Type 0
 AllStand turn cs row = Each (λ c. StandsSomeWay turn c row) cs
 
--- Demand 3, of what somebody says is saved: whatever row somebody else holds on which every code stands, the lengths of
--- the kept codes, added up, are at most its length plus twice that saving.
+-- Demand 3 (a compression ratio of at least one half), of what somebody says is saved: whatever row somebody else holds on
+-- which every code stands, the lengths of the kept codes, added up, are at most its length plus twice that saving.
 abbrev pub AtMostTwice : (List ℕ → List ℕ) → List (List ℕ) → ℕ → Type 0
 AtMostTwice turn cs saved =
     (ks : List (List ℕ)) (rival : List ℕ) → Keeps (StandsSomeWay turn) cs ks → AllStand turn cs rival

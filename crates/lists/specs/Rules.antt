@@ -9,11 +9,11 @@ use Rattle.words.specs.Lists.{In, Each, Once}
 use Rattle.words.specs.Decides.{Decides}
 use Rattle.lists.specs.Runs.{codesIn, total, flat, lengths}
 
--- a band is a byte A to Z
+-- a band (a symbol of the alphabet) is a byte A to Z
 abbrev pub Band : ℕ → Type 0
 Band b = (65 ≤ b) × (b ≤ 90)
 
--- a code has 1 to 64 bands
+-- a code (a string) has 1 to 64 bands
 abbrev pub CodeRule : List ℕ → Type 0
 CodeRule c = (1 ≤ length c) × (length c ≤ 64) × Each Band c
 

@@ -1,4 +1,5 @@
--- The place of a word on a row: the smallest start at which either way stands, with the way; given where both stand.
+-- The place of a word on a row (its first occurrence): the smallest start at which either way stands, with the way;
+-- given where both stand.
 use mathlib.Core.Bool.{Bool, true, false}
 use mathlib.Core.List.{List, [], _∷_}
 use Prim.Native.Nat.{ℕ, suc, _≤_, _<_}

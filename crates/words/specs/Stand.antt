@@ -18,7 +18,7 @@ pub record StandsAt (c s : List ℕ) (i : ℕ) : Type 0 where
   pub stands : Stands c s
   pub start : length (stands .before) ≡ i
 
--- one way or the other, as given or turned
+-- one way or the other, as given or turned (the string or its reversal is a factor)
 abbrev pub StandsSomeWay : (List ℕ → List ℕ) → List ℕ → List ℕ → Type 0
 StandsSomeWay turn c s = Stands c s ⊎ Stands (turn c) s
 
