@@ -1,6 +1,6 @@
 -- How much room suffices: a computed ribbon has at most 8,192 bands, so a list that no clause of 12 refuses is laid out into
 -- every buffer of that length.
-use mathlib.Core.Path.{_≡_, refl, ap}
+use mathlib.Core.Path.{_≡_}
 use mathlib.Core.Bool.{Bool, true, false}
 use mathlib.Core.List.{List, [], _∷_, map}
 use Prim.Native.Nat.{ℕ, zero, suc, _*_, _≤_}
@@ -13,6 +13,7 @@ use Rattle.words.proofs.Turning.{turning}
 use Rattle.lists.specs.Runs.{codesIn, total, lengths}
 use Rattle.lists.specs.Rules.{CodeRule}
 use Rattle.lists.specs.Fit.{listOk}
+use Rattle.lists.proofs.Runs.{codes-count}
 use Rattle.lists.proofs.Rules.{is-fit-list}
 use Rattle.words.proofs.Deciding.{holds}
 use Rattle.layout.specs.Dropping.{codeAt, without, isDropped}
@@ -39,10 +40,6 @@ some-of p i (suc n) = by (p i) (some-of p (suc i) n)
         → length {A = ℕ} (elim t [ true ↦ without p (suc i) n | false ↦ i ∷ without p (suc i) n ]) ≤ suc n
     by true l = omega arith
     by false l = omega arith
-
-codes-count : (run ls : List ℕ) → length (codesIn run ls) ≡ length ls
-codes-count run [] = refl
-codes-count run (n ∷ ns) = ap suc (codes-count _ ns)
 
 pub ribbon-at-most : (run ls : List ℕ) → listOk run ls ≡ true → length (ribbonFor turned (codesIn run ls)) ≤ 8192
 ribbon-at-most run ls ok =

@@ -1,8 +1,8 @@
 -- A run cut into words and joined again is as before, and words joined into a run and cut again are as before: each by
 -- induction over the words, or over their lengths.
-use mathlib.Core.Path.{_≡_, refl}
+use mathlib.Core.Path.{_≡_, refl, ap}
 use mathlib.Core.List.{List, [], _∷_}
-use Prim.Native.Nat.{ℕ}
+use Prim.Native.Nat.{ℕ, suc}
 use native.Mathlib.Omega.{arith}
 use lib.ListN.{length, drop, length-append, length-drop, take-append-drop}
 use lib.Seq.{length-take-le, take-at, drop-at}
@@ -16,6 +16,11 @@ cut-again (c ∷ cs) = rw (take-at, drop-at, cut-again cs)
 pub total-lengths : (cs : List (List ℕ)) → total (lengths cs) ≡ length (flat cs)
 total-lengths [] = refl
 total-lengths (c ∷ cs) = omega (arith, total-lengths cs, length-append c (flat cs))
+
+-- as many words as lengths
+pub codes-count : (run ls : List ℕ) → length (codesIn run ls) ≡ length ls
+codes-count run [] = refl
+codes-count run (n ∷ ns) = ap suc (codes-count (drop n run) ns)
 
 -- from a run to words and back, where the lengths add up to the run
 pub rest-adds-up : (run : List ℕ) (n : ℕ) (ns : List ℕ) → total (n ∷ ns) ≡ length run → total ns ≡ length (drop n run)

@@ -57,7 +57,7 @@ writes-ours c h = by (is-marked c)
     by (yes m) = in-quotes m (doubled-inside c h)
     by (no n) = as-it-is n
 
-written-only : {c t : List ℕ} → Written c t → fieldText c ≡ t
+pub written-only : {c t : List ℕ} → Written c t → fieldText c ≡ t
 written-only {c} (as-it-is n) = rw (refuses (is-marked c) n)
 written-only {c} (in-quotes m i) = rw (passes (is-marked c) m, inside-doubled i)
 
@@ -85,7 +85,7 @@ caught : (write : List ℕ → List ℕ) (c : List ℕ) → Each Printed c → l
 caught write c h d w = d (ap length (written-only (w c h)))
 
 -- quotes not doubled; on a quote
-abbrev undoubled : List ℕ → List ℕ
+abbrev pub undoubled : List ℕ → List ℕ
 undoubled c = pick (needsQuotes c) (quote ∷ (c ++ (quote ∷ []))) c
 
 pub not-undoubled : Writes undoubled → ⊥

@@ -12,6 +12,7 @@ use Rattle.lists.proofs.Rules.{codes-checked, codes-only, names-checked, names-
 use Rattle.orders.proofs.Exactly.{meets-ours, meets-only}
 use Rattle.orders.proofs.Answers.{serves-ours, serves-only}
 use Rattle.orders.proofs.HandsOn.{hands-on}
+use Rattle.orders.proofs.Quoting.{writes-ours, writes-only}
 use Rattle.orders.proofs.RibbonFile.{takes-ours, takes-only}
 use Rattle.joins.proofs.Claims.{joiner-ours, joiner-only}
 use Rattle.layout.specs.Answers.{laid, LaysInto, layOutcome}
@@ -20,6 +21,9 @@ use Rattle.layout.proofs.Laying.{lays-twice, never-stuck-rule}
 use Rattle.layout.proofs.Claims.{lays-ours, lays-only, each-laid, starred-lay}
 use Rattle.layout.proofs.Answers.{lays-out-ours, lays-out-only, laid-means}
 use Rattle.layout.proofs.Room.{ribbon-at-most, accepts}
+use Rattle.sheets.proofs.Answers.{sheets-ours, sheets-only}
+use Rattle.sheets.proofs.Room.{accepts as sheet-accepts}
+use Rattle.sheets.proofs.ReadBack.{reads-back}
 use Rattle.places.proofs.Check.{misses-ours, misses-only}
 use Rattle.places.proofs.Answers.{checks-ours, checks-only}
 use Rattle.ribbons.specs.Demands.{Pinned, NoFreedom, Demand3, Demands}
@@ -41,6 +45,8 @@ pinned =
       reading = serves-ours;
       laying = lays-out-ours;
       checking = checks-ours;
+      quoting = writes-ours;
+      sheets = sheets-ours;
       starred = starred-lay;
     }
 
@@ -61,6 +67,8 @@ no-freedom =
       reading = serves-only;
       laying = lays-out-only;
       checking = checks-only;
+      quoting = writes-only;
+      sheets = sheets-only;
     }
 
 pub demand-3 : Demand3
@@ -77,10 +85,13 @@ all-demands =
       pinned = pinned;
       no-freedom = no-freedom;
       accepted = λ run ls buffer ok room. accepts run ls buffer ok (omega (arith, ribbon-at-most run ls ok));
+      accepted-sheet = λ run ls name-run name-ls buffer ok named room.
+          sheet-accepts run ls name-run name-ls ok named buffer room;
       never-stuck = λ cs x. never-stuck-rule x;
       hands-on = hands-on;
       all-stand = λ cs. each-laid turned turning cs .all-stand;
       adds-up = λ cs. each-laid turned turning cs .adds-up;
+      reads-back = λ names codes ribbon sheet x printed banded. reads-back x printed banded;
       at-most-twice = demand-3;
       any-ties = λ turn t cs ribbon saved l. lays-twice t l;
     }

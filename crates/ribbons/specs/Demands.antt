@@ -5,18 +5,20 @@ use mathlib.Core.Bool.{Bool, true}
 use mathlib.Core.List.{List}
 use Prim.Native.Nat.{ℕ, _+_, _*_, _≤_}
 use lib.ListN.{length}
+use Rattle.words.specs.Lists.{Each}
 use Rattle.words.specs.Turn.{turned, Turning, Turns}
 use Rattle.words.specs.Stand.{StandsSomeWay}
 use Rattle.words.specs.Overlap.{Overlaps, overlap}
 use Rattle.words.specs.Place.{Place, Finds, placeOf}
 use Rattle.lists.specs.Runs.{codesIn, total, lengths}
-use Rattle.lists.specs.Rules.{ChecksCodes, ChecksNames}
+use Rattle.lists.specs.Rules.{Band, Printed, ChecksCodes, ChecksNames}
 use Rattle.lists.specs.Fit.{listOk, namesOk}
 use Rattle.orders.specs.Files.{Orders}
 use Rattle.orders.specs.Grammar.{Meets}
 use Rattle.orders.specs.Orders.{readOrders}
 use Rattle.orders.specs.Answers.{Lent, ReadOutcome, Serves, readOutcome}
 use Rattle.orders.specs.HandsOn.{Hands-on}
+use Rattle.orders.specs.Quoting.{Writes, fieldText}
 use Rattle.orders.specs.RibbonFile.{Takes, ribbonOf}
 use Rattle.joins.specs.Faces.{Join}
 use Rattle.joins.specs.Rules.{Chosen, Largest, Joiner}
@@ -26,6 +28,9 @@ use Rattle.layout.specs.Rules.{Lays, Stuck, AllStand, AtMostTwice}
 use Rattle.layout.specs.Layout.{ribbonFor, savedBy}
 use Rattle.layout.specs.Answers.{LayOutcome, laid, LaysOut, layOutcome}
 use Rattle.layout.specs.Starred.{Starred}
+use Rattle.sheets.specs.Sheet.{SheetFor}
+use Rattle.sheets.specs.Answers.{SheetOutcome, written, Sheets, sheetFor, sheetOutcome}
+use Rattle.sheets.specs.ReadBack.{ReadsBack}
 use Rattle.places.specs.Check.{Missing, Misses, missingOn}
 use Rattle.places.specs.Answers.{PlaceRecord, CheckOutcome, Checks, checkOutcome}
 
@@ -45,6 +50,8 @@ pub record Pinned : Type 0 where
   pub reading : Serves readOutcome
   pub laying : LaysOut layOutcome
   pub checking : Checks checkOutcome
+  pub quoting : Writes fieldText
+  pub sheets : Sheets sheetOutcome
   -- document 01's starred ribbons
   pub starred : Starred
 
@@ -71,6 +78,10 @@ pub record NoFreedom : Type 0 where
       → call run ls buffer ≡ layOutcome run ls buffer
   pub checking : (call : List ℕ → List ℕ → List ℕ → List PlaceRecord → CheckOutcome) → Checks call
       → (run ls row : List ℕ) (records : List PlaceRecord) → call run ls row records ≡ checkOutcome run ls row records
+  pub quoting : (write : List ℕ → List ℕ) → Writes write → (c : List ℕ) → Each Printed c → write c ≡ fieldText c
+  pub sheets : (call : List ℕ → List ℕ → List ℕ → List ℕ → List ℕ → SheetOutcome) → Sheets call
+      → (run ls name-run name-ls buffer : List ℕ)
+      → call run ls name-run name-ls buffer ≡ sheetOutcome run ls name-run name-ls buffer
 
 -- Demand 3, one claim over all lists and rivals. If laying out a list answers with saved, then for whatever row somebody
 -- else holds, of any length, on which every code of the list stands, the lengths of the kept codes, added up, are at most
@@ -82,21 +93,28 @@ Demand3 =
     → total (lengths (kept turned (codesIn run ls))) ≤ length rival + 2 * saved
 
 pub record Demands : Type 0 where
-  -- 1. Nothing unfit is accepted, and what is refused leaves lent memory untouched: `reading`, `laying` and `checking` of
-  -- the records above. A fit list is accepted, into a buffer of 8,192 bytes; none gets stuck; what reading hands on is fit.
+  -- 1. Nothing unfit is accepted, and what is refused leaves lent memory untouched: `reading`, `laying`, `checking` and
+  -- `sheets` of the records above. A fit list is accepted, into a buffer of 8,192 bytes, its sheet into one of 16,534; none
+  -- gets stuck; what reading hands on is fit.
   pub pinned : Pinned
   pub no-freedom : NoFreedom
   pub accepted : (run ls buffer : List ℕ) → listOk run ls ≡ true → 8192 ≤ length buffer
       → layOutcome run ls buffer .answer
       ≡ laid (length (ribbonFor turned (codesIn run ls))) (savedBy turned (codesIn run ls))
+  pub accepted-sheet : (run ls name-run name-ls buffer : List ℕ) → listOk run ls ≡ true
+      → namesOk (length ls) name-run name-ls ≡ true → 16534 ≤ length buffer
+      → sheetOutcome run ls name-run name-ls buffer .answer
+      ≡ written (length (sheetFor run ls name-run name-ls)) (savedBy turned (codesIn run ls))
   pub never-stuck : (cs : List (List ℕ)) → Stuck turned cs → ⊥
   pub hands-on : Hands-on
   -- 2. The ribbon is the one of Greedy-R2 with our tie rule: `ribbons` above. Every listed code stands on it one way or the
   -- other; its bands and the bands saved add up to those of the kept codes. A supplied ribbon passes exactly when every
-  -- code stands on it, and each place is true: `checking` and `places` above.
+  -- code stands on it, and each place on the sheet is true: `checking` and `sheets` above; read back, a sheet gives them.
   pub all-stand : (cs : List (List ℕ)) → AllStand turned cs (ribbonFor turned cs)
   pub adds-up : (cs : List (List ℕ))
       → length (ribbonFor turned cs) + savedBy turned cs ≡ total (lengths (kept turned cs))
+  pub reads-back : (names codes : List (List ℕ)) (ribbon sheet : List ℕ) → SheetFor names codes ribbon sheet
+      → Each (Each Printed) names → Each (Each Band) codes → ReadsBack names codes ribbon sheet
   -- 3. The bound, of our answer; and of every run of largest joins, whoever settles the ties, for every way of turning.
   pub at-most-twice : Demand3
   pub any-ties : (turn : List ℕ → List ℕ) → Turning turn → (cs : List (List ℕ)) (ribbon : List ℕ) (saved : ℕ)

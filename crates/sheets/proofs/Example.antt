@@ -1,13 +1,17 @@
--- Document 01's worked example: the sheet of Pump, Fan and Lamp, byte for byte.
-use mathlib.Core.Path.{_≡_, refl}
+-- Document 01's worked example: the sheet of Pump, Fan and Lamp, byte for byte. Ours is this text, and so the claim
+-- holds of it, on the ribbon that the example gives.
+use mathlib.Core.Path.{_≡_, refl, subst}
 use mathlib.Core.Bool.{true}
 use mathlib.Core.List.{List, [], _∷_}
 use Prim.Native.Nat.{ℕ}
+use native.Mathlib.Omega.{arith}
 use Rattle.words.specs.Tests.{same}
 use Rattle.words.specs.Turn.{turned}
 use Rattle.words.specs.Texts.{text}
 use Rattle.words.proofs.Tests.{same-eq}
-use Rattle.sheets.specs.Sheet.{sheetText}
+use Rattle.layout.specs.Layout.{ribbonFor}
+use Rattle.sheets.specs.Sheet.{SheetFor, sheetText}
+use Rattle.sheets.proofs.Sheet.{sheet-ours}
 
 abbrev names : List (List ℕ)
 names = text "Pump" ∷ text "Fan" ∷ text "Lamp" ∷ []
@@ -24,3 +28,13 @@ to-the-byte = refl
 
 pub worked-example : sheetText names codes ≡ sheet
 worked-example = same-eq (sheetText names codes) sheet to-the-byte
+
+to-the-band : same (ribbonFor turned codes) (text "CAAABBB") ≡ true
+unfolding turned
+to-the-band = refl
+
+pub example-meets : SheetFor names codes (text "CAAABBB") sheet
+example-meets =
+    let e = same-eq (ribbonFor turned codes) (text "CAAABBB") to-the-band in
+    subst (λ (r : List ℕ). SheetFor names codes r sheet) e
+    (subst (SheetFor names codes (ribbonFor turned codes)) worked-example (sheet-ours names codes refl (omega arith)))

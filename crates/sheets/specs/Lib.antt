@@ -2,3 +2,4 @@
 pub mod Decimal
 pub mod Sheet
 pub mod Answers
+pub mod ReadBack

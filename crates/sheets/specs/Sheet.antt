@@ -1,16 +1,39 @@
--- The sheet: the heading row `name,way,start,bands`, then one row for each listed code in list order.
+-- The sheet: the heading row `name,way,start,bands`, then one row for each listed code in list order. The claim on the
+-- text of a sheet, and ours.
 use mathlib.Core.List.{List, [], _∷_, _++_}
 use Prim.Native.Nat.{ℕ}
 use lib.ListN.{length, take, drop}
 use Rattle.words.specs.Texts.{text}
 use Rattle.words.specs.Turn.{turned}
-use Rattle.words.specs.Place.{Place, given-at, turned-at, nowhere, placeOf}
+use Rattle.words.specs.Place.{Place, given-at, turned-at, nowhere, IsPlace, placeOf}
 use Rattle.orders.specs.Files.{comma, lineBreak}
-use Rattle.orders.specs.Quoting.{fieldText}
+use Rattle.orders.specs.Quoting.{Written, fieldText}
 use Rattle.layout.specs.Layout.{ribbonFor}
-use Rattle.sheets.specs.Decimal.{decimal}
+use Rattle.sheets.specs.Decimal.{Digits, decimal}
 
--- a row: fields with commas between them, and CR LF
+-- The claim. Way, start and bands of a code by its place: its bands as they stand on the ribbon are its own, or turned.
+pub data PlaceFor (code ribbon : List ℕ) : (way start bands : List ℕ) → Type 0 where
+  as-given : {i : ℕ} {start : List ℕ} → IsPlace turned 0 code ribbon (given-at i) → Digits i start
+      → PlaceFor code ribbon (text "given") start code
+  as-turned : {i : ℕ} {start : List ℕ} → IsPlace turned 0 code ribbon (turned-at i) → Digits i start
+      → PlaceFor code ribbon (text "turned") start (turned code)
+
+-- a code's row: the name as a field is written, way, start and bands, with commas between them, and CR LF
+pub data RowFor (name code ribbon : List ℕ) : List ℕ → Type 0 where
+  row-for : {field way start bands : List ℕ} → Written name field → PlaceFor code ribbon way start bands
+      → RowFor name code ribbon (field ++ (comma ∷ (way ++ (comma ∷ (start ++ (comma ∷ (bands ++ lineBreak)))))))
+
+-- one row for each code, in list order
+pub data RowsFor (ribbon : List ℕ) : (names codes : List (List ℕ)) → List ℕ → Type 0 where
+  none : RowsFor ribbon [] [] []
+  next : {name code row rows : List ℕ} {names codes : List (List ℕ)} → RowFor name code ribbon row
+      → RowsFor ribbon names codes rows → RowsFor ribbon (name ∷ names) (code ∷ codes) (row ++ rows)
+
+pub data SheetFor (names codes : List (List ℕ)) (ribbon : List ℕ) : List ℕ → Type 0 where
+  heading-first : {rows : List ℕ} → RowsFor ribbon names codes rows
+      → SheetFor names codes ribbon (text "name,way,start,bands\r\n" ++ rows)
+
+-- Ours. A row: fields with commas between them, and CR LF.
 abbrev pub rowText : List (List ℕ) → List ℕ
 rowText [] = lineBreak
 rowText (f ∷ []) = f ++ lineBreak

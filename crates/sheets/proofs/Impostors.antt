@@ -1,0 +1,279 @@
+-- Wrong calls that write a sheet, each written out and caught by the claim on a named list and buffer. The claim leaves
+-- one outcome, so an impostor is caught where its answer, or what it leaves in the buffer, is not that of ours.
+use mathlib.Core.Path.{_≡_, refl, ap, ap₂}
+use mathlib.Core.Bool.{Bool, true, false, _&&_, not}
+use mathlib.Core.List.{List, [], _∷_, _++_, map, zip, zipWith}
+use Prim.Native.Nat.{ℕ, suc}
+use lib.Dec.{eqb, ltb, leb}
+use lib.ListN.{length, take, replicate}
+use Rattle.words.specs.Tests.{pick, same}
+use Rattle.words.specs.Turn.{turned}
+use Rattle.words.specs.Texts.{text}
+use Rattle.words.specs.Place.{Place, given-at, turned-at, nowhere, placeOf}
+use Rattle.words.proofs.Tests.{differ}
+use Rattle.lists.specs.Refusals.{whole, falseList, stuck, shortBuffer, when, firstOf}
+use Rattle.lists.specs.Outcome.{outcome}
+use Rattle.lists.specs.Runs.{codesIn, flat, lengths, over}
+use Rattle.lists.specs.Fit.{isIn, listOk, namesOk}
+use Rattle.orders.specs.Quoting.{fieldText}
+use Rattle.orders.proofs.Quoting.{undoubled}
+use Rattle.layout.specs.Dropping.{kept}
+use Rattle.layout.specs.Layout.{ribbonFor, savedBy, isStuck}
+use Rattle.sheets.specs.Decimal.{decimal}
+use Rattle.sheets.specs.Sheet.{rowText, sheetHeading, bandsAt, placeFields, codeRows, sheetText}
+use Rattle.sheets.specs.Answers.{SheetAnswer, SheetOutcome, refused, written, Sheets, sheetFor, sheetOutcome}
+use Rattle.sheets.proofs.Answers.{sheets-only}
+
+-- A writer of sheets, where all is open that can go wrong: which rows in which order, how a name is written, the place,
+-- how a start is written, and which bands.
+abbrev Entry : Type 0
+Entry = List ℕ × List ℕ
+
+module _ (order : List (List ℕ) → List Entry → List Entry) (field : List ℕ → List ℕ)
+    (place : List ℕ → List ℕ → Place) (start : ℕ → List ℕ) (bands : List ℕ → List ℕ → ℕ → List ℕ) where
+  abbrev fieldsBy : List ℕ → List ℕ → Place → List (List ℕ)
+  fieldsBy code ribbon (given-at i) = text "given" ∷ start i ∷ bands code ribbon i ∷ []
+  fieldsBy code ribbon (turned-at i) = text "turned" ∷ start i ∷ bands code ribbon i ∷ []
+  fieldsBy code ribbon nowhere = []
+
+  abbrev rowsBy : List ℕ → List Entry → List ℕ
+  rowsBy ribbon es =
+      flat (map (λ (e : Entry). rowText (field (e .0) ∷ fieldsBy (e .1) ribbon (place (e .1) ribbon))) es)
+
+  abbrev writeBy : List (List ℕ) → List (List ℕ) → List ℕ
+  writeBy names codes = rowText sheetHeading ++ rowsBy (ribbonFor turned codes) (order codes (zip names codes))
+
+-- a call that writes so, and asks of the list what it asks
+abbrev Call : Type 0
+Call = List ℕ → List ℕ → List ℕ → List ℕ → List ℕ → SheetOutcome
+
+abbrev callBy : (List ℕ → List ℕ → List ℕ → List ℕ → Bool) → (List (List ℕ) → List (List ℕ) → List ℕ) → Call
+callBy ok write run ls name-run name-ls buffer =
+    let cs = codesIn run ls in
+    let sheet = write (codesIn name-run name-ls) cs in
+    let f = firstOf (when (not (ok run ls name-run name-ls)) falseList)
+    (firstOf (when (isStuck turned cs) stuck) (when (ltb (length buffer) (length sheet)) shortBuffer)) in
+    elim (eqb f 0) [
+      | true ↦ outcome (written (length sheet) (savedBy turned cs)) (over sheet buffer)
+      | false ↦ outcome (refused (whole f)) buffer
+    ]
+
+-- The right ones: every entry in list order, the bands that stand there, codes and names checked.
+abbrev listed : List (List ℕ) → List Entry → List Entry
+listed cs es = es
+
+abbrev standing : List ℕ → List ℕ → ℕ → List ℕ
+standing code ribbon i = bandsAt ribbon (length code) i
+
+abbrev checked : List ℕ → List ℕ → List ℕ → List ℕ → Bool
+checked run ls name-run name-ls = listOk run ls && namesOk (length ls) name-run name-ls
+
+pub right-sheet-is-ours : (names codes : List (List ℕ))
+    → writeBy listed fieldText (placeOf turned) decimal standing names codes ≡ sheetText names codes
+unfolding zip zipWith
+right-sheet-is-ours names codes = ap (λ (r : List ℕ). rowText sheetHeading ++ r) (rows names codes)
+  where
+    ribbon : List ℕ
+    ribbon = ribbonFor turned codes
+
+    fields : (c : List ℕ) (p : Place)
+        → fieldsBy listed fieldText (placeOf turned) decimal standing c ribbon p ≡ placeFields ribbon (length c) p
+    fields c (given-at i) = refl
+    fields c (turned-at i) = refl
+    fields c nowhere = refl
+
+    rows : (ns cs : List (List ℕ))
+        → rowsBy listed fieldText (placeOf turned) decimal standing ribbon (zip ns cs) ≡ codeRows ns cs ribbon
+    rows [] cs = refl
+    rows (n ∷ ns) [] = refl
+    rows (n ∷ ns) (c ∷ cs) =
+        ap₂ (λ (fs : List (List ℕ)) (r : List ℕ). rowText (fieldText n ∷ fs) ++ r)
+        (fields c (placeOf turned c ribbon)) (rows ns cs)
+
+pub right-call-is-ours : (run ls name-run name-ls buffer : List ℕ)
+    → callBy checked sheetText run ls name-run name-ls buffer ≡ sheetOutcome run ls name-run name-ls buffer
+right-call-is-ours run ls name-run name-ls buffer = refl
+
+-- what is seen of a call: the numbers of its answer, and the buffer after it
+abbrev numbers : SheetAnswer → List ℕ
+numbers (refused r) = r .number ∷ r .row ∷ []
+numbers (written bytes saved) = 0 ∷ bytes ∷ saved ∷ []
+
+abbrev seen : SheetOutcome → List ℕ
+seen o = numbers (o .answer) ++ o .after
+
+abbrev callOn : Call → List (List ℕ) → List (List ℕ) → List ℕ → SheetOutcome
+callOn call names codes buffer = call (flat codes) (lengths codes) (flat names) (lengths names) buffer
+
+caught : (call : Call) (names codes : List (List ℕ)) (buffer : List ℕ)
+    → same (seen (callOn call names codes buffer)) (seen (callOn sheetOutcome names codes buffer)) ≡ false
+    → Sheets call → ⊥
+caught call names codes buffer d h =
+    differ d (ap seen (sheets-only call h (flat codes) (lengths codes) (flat names) (lengths names) buffer))
+
+-- enough room for the sheets below
+abbrev room : List ℕ
+room = replicate 99 7
+
+abbrev two : List (List ℕ)
+two = text "P" ∷ text "Q" ∷ []
+
+abbrev twice : List (List ℕ)
+twice = text "P" ∷ text "P" ∷ []
+
+abbrev apart : List (List ℕ)
+apart = text "AB" ∷ text "CD" ∷ []
+
+-- Rows: a dropped code without one; kept codes first; in the order of the ribbon.
+abbrev keptOnly : List (List ℕ) → List Entry → List Entry
+keptOnly cs [] = []
+keptOnly cs (e ∷ es) = pick (isIn (e .1) (kept turned cs)) (e ∷ keptOnly cs es) (keptOnly cs es)
+
+abbrev droppedOnly : List (List ℕ) → List Entry → List Entry
+droppedOnly cs [] = []
+droppedOnly cs (e ∷ es) = pick (isIn (e .1) (kept turned cs)) (droppedOnly cs es) (e ∷ droppedOnly cs es)
+
+abbrev keptFirst : List (List ℕ) → List Entry → List Entry
+keptFirst cs es = keptOnly cs es ++ droppedOnly cs es
+
+abbrev startOf : Place → ℕ
+startOf (given-at i) = i
+startOf (turned-at i) = i
+startOf nowhere = 0
+
+abbrev insert : List ℕ → Entry → List Entry → List Entry
+insert ribbon e [] = e ∷ []
+insert ribbon e (f ∷ fs) =
+    pick (leb (startOf (placeOf turned (e .1) ribbon)) (startOf (placeOf turned (f .1) ribbon))) (e ∷ (f ∷ fs))
+    (f ∷ insert ribbon e fs)
+
+abbrev alongRibbon : List (List ℕ) → List Entry → List Entry
+alongRibbon cs [] = []
+alongRibbon cs (e ∷ es) = insert (ribbonFor turned cs) e (alongRibbon cs es)
+
+abbrev rowsIn : (List (List ℕ) → List Entry → List Entry) → Call
+rowsIn order = callBy checked (writeBy order fieldText (placeOf turned) decimal standing)
+
+-- B and ABC, of which B is dropped
+pub not-kept-only : Sheets (rowsIn keptOnly) → ⊥
+unfolding turned zip zipWith
+not-kept-only = caught (rowsIn keptOnly) two (text "B" ∷ text "ABC" ∷ []) room refl
+
+pub not-kept-first : Sheets (rowsIn keptFirst) → ⊥
+unfolding turned zip zipWith
+not-kept-first = caught (rowsIn keptFirst) two (text "B" ∷ text "ABC" ∷ []) room refl
+
+-- AB and CA, on CAB
+pub not-along-ribbon : Sheets (rowsIn alongRibbon) → ⊥
+unfolding turned zip zipWith
+not-along-ribbon = caught (rowsIn alongRibbon) two (text "AB" ∷ text "CA" ∷ []) room refl
+
+-- Names: quotes not doubled, on a quote; never quoted, on a comma.
+abbrev namesBy : (List ℕ → List ℕ) → Call
+namesBy field = callBy checked (writeBy listed field (placeOf turned) decimal standing)
+
+pub not-undoubled : Sheets (namesBy undoubled) → ⊥
+unfolding turned zip zipWith
+not-undoubled = caught (namesBy undoubled) (text "\"" ∷ []) (text "AB" ∷ []) room refl
+
+pub not-never-quoted : Sheets (namesBy (λ c. c)) → ⊥
+unfolding turned zip zipWith
+not-never-quoted = caught (namesBy (λ c. c)) (text "," ∷ []) (text "AB" ∷ []) room refl
+
+-- Places: always `given,0`, on AB and CD.
+abbrev alwaysFirst : Call
+alwaysFirst = callBy checked (writeBy listed fieldText (λ c s. given-at 0) decimal standing)
+
+pub not-always-first : Sheets alwaysFirst → ⊥
+unfolding turned zip zipWith
+not-always-first = caught alwaysFirst two apart room refl
+
+-- Starts: counted from 1; with a leading zero; digits reversed, on a code that starts at 10.
+abbrev startsBy : (ℕ → List ℕ) → Call
+startsBy number = callBy checked (writeBy listed fieldText (placeOf turned) number standing)
+
+pub not-from-one : Sheets (startsBy (λ i. decimal (suc i))) → ⊥
+unfolding turned zip zipWith
+not-from-one = caught (startsBy (λ i. decimal (suc i))) two apart room refl
+
+pub not-leading-zero : Sheets (startsBy (λ i. text "0" ++ decimal i)) → ⊥
+unfolding turned zip zipWith
+not-leading-zero = caught (startsBy (λ i. text "0" ++ decimal i)) two apart room refl
+
+pub not-reversed : Sheets (startsBy (λ i. turned (decimal i))) → ⊥
+unfolding turned zip zipWith
+not-reversed = caught (startsBy (λ i. turned (decimal i))) two (text "ABCDEFGHIJ" ∷ text "KL" ∷ []) room refl
+
+-- Bands: as they are listed and not as they stand, on AB and BA.
+abbrev asListed : Call
+asListed = callBy checked (writeBy listed fieldText (placeOf turned) decimal (λ c s i. c))
+
+pub not-as-listed : Sheets asListed → ⊥
+unfolding turned zip zipWith
+not-as-listed = caught asListed two (text "AB" ∷ text "BA" ∷ []) room refl
+
+-- The list: names not checked, on a name used twice; every list turned away; every list stuck.
+abbrev unchecked : Call
+unchecked = callBy (λ run ls name-run name-ls. listOk run ls) sheetText
+
+pub not-unchecked : Sheets unchecked → ⊥
+unfolding turned
+not-unchecked = caught unchecked twice apart room refl
+
+abbrev allTurnedAway : Call
+allTurnedAway = callBy (λ run ls name-run name-ls. false) sheetText
+
+pub not-all-turned-away : Sheets allTurnedAway → ⊥
+unfolding turned
+not-all-turned-away = caught allTurnedAway (text "P" ∷ []) (text "AB" ∷ []) room refl
+
+abbrev stuckAtOnce : Call
+stuckAtOnce run ls name-run name-ls buffer = outcome (refused (whole stuck)) buffer
+
+pub not-stuck-at-once : Sheets stuckAtOnce → ⊥
+unfolding turned
+not-stuck-at-once = caught stuckAtOnce (text "P" ∷ []) (text "AB" ∷ []) room refl
+
+-- The order of refusals: 13 before 12, on a name used twice and no room.
+abbrev shortFirst : Call
+shortFirst run ls name-run name-ls buffer =
+    let short = ltb (length buffer) (length (sheetFor run ls name-run name-ls)) in
+    pick short (outcome (refused (whole shortBuffer)) buffer) (sheetOutcome run ls name-run name-ls buffer)
+
+pub not-short-first : Sheets shortFirst → ⊥
+unfolding turned
+not-short-first = caught shortFirst twice apart [] refl
+
+-- The answer: length and saved exchanged.
+abbrev exchanged : Call
+exchanged run ls name-run name-ls buffer =
+    let o = sheetOutcome run ls name-run name-ls buffer in
+    elim (o .answer) [ refused r ↦ o | written bytes saved ↦ outcome (written saved bytes) (o .after) ]
+
+pub not-exchanged : Sheets exchanged → ⊥
+unfolding turned
+not-exchanged = caught exchanged (text "P" ∷ []) (text "AB" ∷ []) room refl
+
+-- The buffer: untouched; written as far as it goes before a refusal, in one byte; cleared past the sheet.
+abbrev untouched : Call
+untouched run ls name-run name-ls buffer = outcome (sheetOutcome run ls name-run name-ls buffer .answer) buffer
+
+pub not-untouched : Sheets untouched → ⊥
+unfolding turned
+not-untouched = caught untouched (text "P" ∷ []) (text "AB" ∷ []) room refl
+
+abbrev writesRefused : Call
+writesRefused run ls name-run name-ls buffer =
+    outcome (sheetOutcome run ls name-run name-ls buffer .answer)
+    (take (length buffer) (over (sheetFor run ls name-run name-ls) buffer))
+
+pub not-writes-refused : Sheets writesRefused → ⊥
+unfolding turned
+not-writes-refused = caught writesRefused (text "P" ∷ []) (text "AB" ∷ []) (7 ∷ []) refl
+
+abbrev cleared : Call
+cleared run ls name-run name-ls buffer = sheetOutcome run ls name-run name-ls (map (λ (b : ℕ). 0) buffer)
+
+pub not-cleared : Sheets cleared → ⊥
+unfolding turned
+not-cleared = caught cleared (text "P" ∷ []) (text "AB" ∷ []) room refl

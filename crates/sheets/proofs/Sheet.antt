@@ -1,0 +1,82 @@
+-- The text of a sheet: ours meets the claim, for every list with names of printed bytes, and nothing else does. A code
+-- that stands on the ribbon has one place there, and as many bands from its start on are the code, or it turned.
+use mathlib.Core.Path.{_≡_, refl, sym, ap, ap₂, _∙_}
+use mathlib.Core.Bool.{true, true≢false}
+use mathlib.Core.List.{List, [], _∷_, _++_}
+use Prim.Native.Nat.{ℕ}
+use native.Mathlib.Omega.{arith}
+use lib.ListN.{length, take}
+use lib.Seq.{take-at, drop-at}
+use Rattle.words.specs.Lists.{Each}
+use Rattle.words.specs.Turn.{turned}
+use Rattle.words.specs.Stand.{StandsAt, StandsSomeWay}
+use Rattle.words.specs.Place.{Place, IsPlace, is-given, is-turned, is-nowhere, found}
+use Rattle.words.proofs.Turning.{turning}
+use Rattle.words.proofs.Deciding.{passes}
+use Rattle.words.proofs.Placing.{finds-ours, place-one, found-exactly}
+use Rattle.lists.specs.Rules.{Printed}
+use Rattle.orders.specs.Quoting.{fieldText}
+use Rattle.orders.proofs.Quoting.{writes-ours, written-only}
+use Rattle.layout.specs.Rules.{AllStand}
+use Rattle.layout.specs.Layout.{ribbonFor}
+use Rattle.layout.proofs.Claims.{each-laid}
+use Rattle.sheets.specs.Sheet.{as-given, as-turned, RowFor, row-for, RowsFor, none, next, SheetFor, heading-first}
+use Rattle.sheets.specs.Sheet.{rowText, sheetHeading, bandsAt, placeFields, codeRow, codeRows, sheetText}
+use Rattle.sheets.proofs.Decimal.{digits-ours, digits-one}
+
+-- as many bands as a word has, from a start on at which it stands, are the word
+bands-stand : {c s : List ℕ} {n i : ℕ} → length c ≡ n → StandsAt c s i → bandsAt s n i ≡ c
+bands-stand {c} {n} {i} e h =
+    let st = h .stands in
+    ap (λ (r : List ℕ). bandsAt r n i) (st .parts)
+    ∙ ap (take n) (drop-at (st .before) (c ++ st .after) i (h .start))
+    ∙ take-at c (st .after) n e
+
+module _ (name code ribbon : List ℕ) where
+  -- our row of a code, by its place
+  abbrev rowBy : Place → List ℕ
+  rowBy p = rowText (fieldText name ∷ placeFields ribbon (length code) p)
+
+  row-ours : Each Printed name → StandsSomeWay turned code ribbon → RowFor name code ribbon (codeRow name code ribbon)
+  row-ours p s = by (finds-ours turned code ribbon) (passes (found-exactly turned code ribbon) s)
+    where
+      by : {q : Place} → IsPlace turned 0 code ribbon q → found q ≡ true → RowFor name code ribbon (rowBy q)
+      by (is-given {i} l h n) e =
+          rw (bands-stand refl h) (row-for (writes-ours name p) (as-given (is-given l h n) (digits-ours i)))
+      by (is-turned {i} l x h n) e =
+          rw (bands-stand (turning .as-long code) h)
+          (row-for (writes-ours name p) (as-turned (is-turned l x h n) (digits-ours i)))
+      by (is-nowhere n) e = absurd (true≢false (sym e))
+
+  row-only : {t : List ℕ} → RowFor name code ribbon t → t ≡ codeRow name code ribbon
+  row-only (row-for w (as-given {i} (is-given l h n) d)) =
+      let e = ap rowBy (place-one (finds-ours turned code ribbon) (is-given l h n)) in
+      sym (e ∙ rw (written-only w, bands-stand refl h, digits-one (digits-ours i) d))
+  row-only (row-for w (as-turned {i} (is-turned l x h n) d)) =
+      let e = ap rowBy (place-one (finds-ours turned code ribbon) (is-turned l x h n)) in
+      sym (e ∙ rw (written-only w, bands-stand (turning .as-long code) h, digits-one (digits-ours i) d))
+
+-- row after row
+rows-ours : (names codes : List (List ℕ)) (ribbon : List ℕ) → length names ≡ length codes → Each (Each Printed) names
+    → AllStand turned codes ribbon → RowsFor ribbon names codes (codeRows names codes ribbon)
+rows-ours [] [] ribbon e p s = none
+rows-ours [] (c ∷ cs) ribbon e p s = absurd (omega arith)
+rows-ours (n ∷ ns) [] ribbon e p s = absurd (omega arith)
+rows-ours (n ∷ ns) (c ∷ cs) ribbon e (p, ps) (s, ss) =
+    next (row-ours n c ribbon p s) (rows-ours ns cs ribbon (omega arith) ps ss)
+
+rows-only : {names codes : List (List ℕ)} {ribbon t : List ℕ} → RowsFor ribbon names codes t
+    → t ≡ codeRows names codes ribbon
+rows-only none = refl
+rows-only {ribbon} (next {name} {code} r rs) =
+    ap₂ (λ (a b : List ℕ). a ++ b) (row-only name code ribbon r) (rows-only rs)
+
+-- The claim: ours meets it, and nothing else does.
+pub sheet-ours : (names codes : List (List ℕ)) → length names ≡ length codes → Each (Each Printed) names
+    → SheetFor names codes (ribbonFor turned codes) (sheetText names codes)
+sheet-ours names codes e p =
+    heading-first (rows-ours names codes (ribbonFor turned codes) e p (each-laid turned turning codes .all-stand))
+
+pub sheet-only : {names codes : List (List ℕ)} {t : List ℕ} → SheetFor names codes (ribbonFor turned codes) t
+    → t ≡ sheetText names codes
+sheet-only (heading-first rs) = ap (λ (r : List ℕ). rowText sheetHeading ++ r) (rows-only rs)

@@ -1,0 +1,25 @@
+-- What a sheet gives when it is read row after row by the row reader: the heading, then the four fields of each code.
+use mathlib.Core.Path.{_≡_}
+use mathlib.Core.Bool.{true}
+use mathlib.Core.List.{List, [], _∷_}
+use Prim.Native.Nat.{ℕ}
+use Rattle.orders.specs.Rows.{row, firstRow}
+use Rattle.sheets.specs.Sheet.{PlaceFor, sheetHeading}
+
+-- read to its end, a text gives these rows
+pub data ReadsAs : List ℕ → List (List (List ℕ)) → Type 0 where
+  at-end : ReadsAs [] []
+  one-row : {here after : List ℕ} {fields : List (List ℕ)} {rows : List (List (List ℕ))}
+      → firstRow here ≡ row true fields after → ReadsAs after rows → ReadsAs here (fields ∷ rows)
+
+-- for each listed code, in list order, its name, and way, start and bands of its place
+pub data FieldsFor (ribbon : List ℕ) : (names codes : List (List ℕ)) → List (List (List ℕ)) → Type 0 where
+  no-codes : FieldsFor ribbon [] [] []
+  one-code : {name code way start bands : List ℕ} {names codes : List (List ℕ)} {rows : List (List (List ℕ))}
+      → PlaceFor code ribbon way start bands → FieldsFor ribbon names codes rows
+      → FieldsFor ribbon (name ∷ names) (code ∷ codes) ((name ∷ way ∷ start ∷ bands ∷ []) ∷ rows)
+
+pub record ReadsBack (names codes : List (List ℕ)) (ribbon sheet : List ℕ) : Type 0 where
+  pub rows : List (List (List ℕ))
+  pub are-right : FieldsFor ribbon names codes rows
+  pub are-read : ReadsAs sheet (sheetHeading ∷ rows)
