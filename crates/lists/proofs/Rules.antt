@@ -6,6 +6,7 @@ use mathlib.Core.Logic.{_⊎_, inl, inr}
 use mathlib.Core.Bool.{Bool, _&&_, not}
 use mathlib.Core.List.{List, [], _∷_}
 use Prim.Native.Nat.{ℕ, zero, suc, _≤_}
+use native.Mathlib.Nat.{lt-of-not-le}
 use native.Mathlib.Omega.{arith}
 use lib.Dec.{leb}
 use lib.ListN.{length, take, drop}
@@ -14,7 +15,7 @@ use Rattle.words.specs.Lists.{In, Each, Once}
 use Rattle.words.specs.Decides.{Decides, yes, no}
 use Rattle.words.proofs.Lists.{each-in, each-take, each-drop, each-append}
 use Rattle.words.proofs.Deciding.{decides-one, decides-via, decides-not, decides-and, decides-or}
-use Rattle.words.proofs.Deciding.{is-le, is-eq, is-same, not-le}
+use Rattle.words.proofs.Deciding.{is-le, is-eq, is-same}
 use Rattle.lists.specs.Runs.{codesIn, total, flat, lengths}
 use Rattle.lists.specs.Rules.{Band, CodeRule, Printed, NameRule, FitList, FitNames, ChecksCodes, ChecksNames}
 use Rattle.lists.specs.Rules.{FalseCodes, no-codes, too-many, no-length, too-long, other-sum, no-band}
@@ -95,7 +96,7 @@ module _ (run ls : List ℕ) where
   -- all the rules are kept, or some clause refuses
   bad-length : (n : ℕ) → In n ls → (LengthRule n → ⊥) → FalseCodes run ls
   bad-length zero i x = no-length i
-  bad-length (suc n) i x = too-long (suc n) i (not-le (λ l. x (omega arith, l)))
+  bad-length (suc n) i x = too-long (suc n) i (lt-of-not-le (λ l. x (omega arith, l)))
 
   clause-codes : CodesTested run ls ⊎ FalseCodes run ls
   clause-codes =
@@ -106,7 +107,7 @@ module _ (run ls : List ℕ) where
           → Each LengthRule ls ⊎ ((n : ℕ) × In n ls × (LengthRule n → ⊥)) → Decides (total ls ≡ length run) v
           → Each Band run ⊎ ((b : ℕ) × In b run × (Band b → ⊥)) → CodesTested run ls ⊎ FalseCodes run ls
       go (no n) u l s b = inr (no-codes (omega arith))
-      go (yes t) (no n) l s b = inr (too-many (not-le n))
+      go (yes t) (no n) l s b = inr (too-many (lt-of-not-le n))
       go (yes t) (yes u) (inr l) s b = inr (bad-length (l .0) (l .1) (l .2))
       go (yes t) (yes u) (inl l) (no n) b = inr (other-sum n)
       go (yes t) (yes u) (inl l) (yes s) (inr b) = inr (no-band (b .0) (b .1) (b .2))

@@ -72,12 +72,9 @@ texts (b ∷ c) (p, h) n = (
   texts c h (elim [ inl i ↦ n (inl (inr i)) | inr i ↦ n (inr (inr i)) ]),
 )
 
-written-field : {c t : List ℕ} → Each Printed c → Written c t → Field t c
+pub written-field : {c t : List ℕ} → Each Printed c → Written c t → Field t c
 written-field {c} h (as-it-is n) = unquoted (texts c h n)
 written-field h (in-quotes m i) = quoted i
-
-pub field-written : (c : List ℕ) → Each Printed c → Field (fieldText c) c
-field-written c h = written-field h (writes-ours c h)
 
 -- Impostors, each caught on a content that it writes too short or too long.
 caught : (write : List ℕ → List ℕ) (c : List ℕ) → Each Printed c → length (fieldText c) ≢ length (write c)

@@ -1,27 +1,23 @@
 -- A sheet read back: what meets the claim on a sheet is, row for row, a row of the grammar with these four fields, and
 -- the row reader gives the fields of a row of the grammar.
-use mathlib.Core.Path.{refl, subst}
+use mathlib.Core.Path.{refl}
 use mathlib.Core.List.{List, [], _∷_, _++_, append-assoc}
 use Prim.Native.Nat.{ℕ, _+_}
 use native.Mathlib.Omega.{arith}
 use Rattle.words.specs.Lists.{Each}
-use Rattle.words.specs.Turn.{turned}
 use Rattle.words.proofs.Lists.{each-append, each-map}
+use Rattle.words.proofs.Turning.{turned-each}
 use Rattle.lists.specs.Rules.{Band, Printed}
 use Rattle.orders.specs.Files.{comma, lineBreak}
 use Rattle.orders.specs.Grammar.{Text, Field, unquoted, one, more, line, RowAt}
-use Rattle.orders.specs.Quoting.{Written}
 use Rattle.orders.proofs.Scan.{scan-row}
-use Rattle.orders.proofs.Quoting.{written-only, field-written}
+use Rattle.orders.proofs.Quoting.{written-field}
 use Rattle.sheets.specs.Decimal.{Digits, one-digit, one-more}
 use Rattle.sheets.specs.Sheet.{PlaceFor, as-given, as-turned, row-for, RowsFor, none, next, SheetFor}
 use Rattle.sheets.specs.Sheet.{heading-first}
 use Rattle.sheets.specs.ReadBack.{ReadsAs, at-end, one-row, no-codes, one-code, FieldsFor, ReadsBack}
 
--- each field is one of the grammar
-name-field : {name field : List ℕ} → Each Printed name → Written name field → Field field name
-name-field {name} p w = subst (λ (f : List ℕ). Field f name) (written-only w) (field-written name p)
-
+-- what the fields after the name are made of
 digits-text : {v : ℕ} {t : List ℕ} → Digits v t → Each Text t
 digits-text (one-digit l) = omega arith
 digits-text (one-more {d} {t} p h l) = each-append Text t ((48 + d) ∷ []) (digits-text h) (omega arith)
@@ -29,15 +25,10 @@ digits-text (one-more {d} {t} p h l) = each-append Text t ((48 + d) ∷ []) (dig
 bands-text : (c : List ℕ) → Each Band c → Each Text c
 bands-text c h = each-map Band Text (λ b l. omega arith) c h
 
-turned-text : (c : List ℕ) → Each Text c → Each Text (turned c)
-unfolding turned
-turned-text [] h = tt
-turned-text (b ∷ c) (t, h) = each-append Text (turned c) (b ∷ []) (turned-text c h) (t, tt)
-
 place-text : {code ribbon way start bands : List ℕ} → PlaceFor code ribbon way start bands → Each Band code
     → Each Text way × Each Text start × Each Text bands
 place-text {code} (as-given p d) h = (omega arith, digits-text d, bands-text code h)
-place-text {code} (as-turned p d) h = (omega arith, digits-text d, turned-text code (bands-text code h))
+place-text {code} (as-turned p d) h = (omega arith, digits-text d, turned-each Text code (bands-text code h))
 
 -- so a row is one, and what comes after it comes after it
 row-at : (field way start bands rest : List ℕ) {name : List ℕ} → Field field name
@@ -59,7 +50,7 @@ rows-back : {names codes : List (List ℕ)} {ribbon t : List ℕ} → RowsFor ri
 rows-back none n c = ([], no-codes, at-end)
 rows-back (next {name} {rows} (row-for {field} {way} {start} {bands} w p) rs) (n, ns) (c, cs) =
     let (fields, right, read) = rows-back rs ns cs in
-    let r = row-at field way start bands rows (name-field n w) (place-text p c) in
+    let r = row-at field way start bands rows (written-field n w) (place-text p c) in
     ((name ∷ way ∷ start ∷ bands ∷ []) ∷ fields, one-code p right, one-row (scan-row r) read)
 
 pub reads-back : {names codes : List (List ℕ)} {ribbon sheet : List ℕ} → SheetFor names codes ribbon sheet

@@ -6,7 +6,7 @@ use mathlib.Core.Bool.{Bool, true, false, _&&_, not, true≢false, _||_}
 use mathlib.Core.List.{List}
 use Prim.Native.Nat.{ℕ, _≤_, _<_}
 use lib.Dec.{eqb, leb, ltb}
-use borrow.Author.Tests.{eqb-true, eq-eqb, leb-true, leb-false, le-leb, ltb-true, ltb-false, lt-ltb}
+use borrow.Author.Tests.{eqb-true, eq-eqb, leb-true, le-leb, ltb-true, ltb-false, lt-ltb}
 use Rattle.words.specs.Tests.{same}
 use Rattle.words.specs.Decides.{Decides, yes, no}
 use Rattle.words.proofs.Tests.{same-eq, eq-same}
@@ -81,6 +81,3 @@ is-same x y = decide (same x y) (same-eq x y) (eq-same x y)
 
 pub not-lt : {a b : ℕ} → (a < b → ⊥) → b ≤ a
 not-lt {a} {b} h = ltb-false a b (refuses (is-lt a b) h)
-
-pub not-le : {a b : ℕ} → (a ≤ b → ⊥) → b < a
-not-le {a} {b} h = leb-false a b (refuses (is-le a b) h)

@@ -6,7 +6,9 @@ use Prim.Native.Nat.{ℕ, zero, suc, _+_, _-_, _<_}
 use native.Mathlib.Omega.{arith}
 use lib.ListN.{length, getD, length-append, List·getD-append}
 use lib.Seq.{getD-at, ext-getD}
+use Rattle.words.specs.Lists.{Each}
 use Rattle.words.specs.Turn.{turnedBy, turned, Turning, Turns}
+use Rattle.words.proofs.Lists.{each-append}
 
 module _ {A : Type 0} (m : A → A) where
   pub by-length : (c : List A) → length (turnedBy m c) ≡ length c
@@ -27,6 +29,12 @@ turning-by m inverse = record { as-long = by-length m; back = by-back m inverse;
 pub turning : Turning turned
 unfolding turned
 turning = turning-by (λ b. b) (λ b. refl)
+
+-- what holds of each band holds of each when turned
+pub turned-each : (P : ℕ → Type 0) (c : List ℕ) → Each P c → Each P (turned c)
+unfolding turned
+turned-each P [] h = tt
+turned-each P (b ∷ c) (p, h) = each-append P (turned c) (b ∷ []) (turned-each P c h) (p, tt)
 
 -- The claim on `turned`: ours meets it, and nothing else does.
 from-back : (c : List ℕ) (i j : ℕ) → suc (i + j) ≡ length c → getD (turned c) i 0 ≡ getD c j 0
