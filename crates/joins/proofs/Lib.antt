@@ -21,6 +21,16 @@ pub mod Search
 pub mod Ties
 pub mod Rounds
 pub mod Order
+-- The best join is one alone, so overlaps that agree in range give the same joins.
+pub mod Only
+pub mod Agree
+-- What the routine does, over rows.
+pub mod Walks
+pub mod Scans
+pub mod Finding
+pub mod Laying
+pub mod Written
+pub mod Answers
 -- The claim leaves no choice.
 pub mod Claims
 -- Wrong ways of joining, caught by it.

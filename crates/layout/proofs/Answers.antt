@@ -34,7 +34,7 @@ module _ (run ls buffer : List ℕ) where
   ribbon = ribbonFor turned cs
 
   -- ours by its tests: of the list, of being stuck, and of the buffer
-  abbrev byTests : Bool → Bool → Bool → LayOutcome
+  abbrev pub byTests : Bool → Bool → Bool → LayOutcome
   byTests bad st short =
       let f = firstOf (when bad falseList) (firstOf (when st stuck) (when short shortBuffer)) in
       elim (eqb f 0) [

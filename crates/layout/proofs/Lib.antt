@@ -3,10 +3,17 @@ pub mod Dropping
 pub mod Keeping
 pub mod Faces
 pub mod Reading
+pub mod Parts
+pub mod Cutting
+pub mod Sieving
+pub mod Filling
+pub mod Steps
 pub mod Rival
 pub mod Laying
 pub mod Claims
 pub mod Impostors
 pub mod Answers
+pub mod Stages
+pub mod Calls
 pub mod WrongCalls
 pub mod Room

@@ -62,8 +62,12 @@ outranks cs j i =
     || (eqb (length (codeAt cs i)) (length (codeAt cs j)) && ltb j i)
 
 module _ (holds : List ℕ → List ℕ → Bool) (cs : List (List ℕ)) where
+  -- code j holds code i and outranks it
+  abbrev pub heldBy : ℕ → ℕ → Bool
+  heldBy i j = outranks cs j i && holds (codeAt cs i) (codeAt cs j)
+
   abbrev pub isDropped : ℕ → Bool
-  isDropped i = someBelow (length cs) (λ j. outranks cs j i && holds (codeAt cs i) (codeAt cs j))
+  isDropped i = someBelow (length cs) (heldBy i)
 
   abbrev pub keptBy : List (List ℕ)
   keptBy = map (codeAt cs) (without isDropped 0 (length cs))

@@ -2,6 +2,7 @@
 -- The rules are said for any way of turning; the answers and the starred ribbons are for document 01's, `turned`.
 pub mod Dropping
 pub mod Reading
+pub mod Parts
 pub mod Rules
 pub mod Layout
 pub mod Laid

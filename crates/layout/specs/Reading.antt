@@ -1,8 +1,8 @@
 -- Faces as bands, and the ribbon that an order of faces gives, whatever the order.
 use mathlib.Core.List.{List, [], _∷_, _++_}
-use Prim.Native.Nat.{ℕ, _/_, _%_}
+use Prim.Native.Nat.{ℕ, zero, suc, _/_, _%_}
 use lib.Dec.{eqb}
-use lib.ListN.{drop}
+use lib.ListN.{drop, getD}
 use Rattle.words.specs.Tests.{pick}
 use Rattle.words.specs.Overlap.{overlap}
 use Rattle.joins.specs.Rules.{along}
@@ -29,3 +29,8 @@ module _ (turn : List ℕ → List ℕ) (ks : List (List ℕ)) where
 
   abbrev pub savedAlong : List ℕ → ℕ
   savedAlong p = along shared p
+
+  -- the overlap of face number i of an order with the one before it; none for the first
+  abbrev pub skipAt : List ℕ → ℕ → ℕ
+  skipAt p zero = 0
+  skipAt p (suc i) = shared (getD p i 0) (getD p (suc i) 0)

@@ -16,15 +16,19 @@ abbrev pub isIn : List ℕ → List (List ℕ) → Bool
 isIn x [] = false
 isIn x (y ∷ ys) = same x y || isIn x ys
 
+-- from low to high
+abbrev pub between : ℕ → ℕ → ℕ → Bool
+between low high n = leb low n && leb n high
+
 -- bands, codes and names
 abbrev pub isBand : ℕ → Bool
-isBand b = leb 65 b && leb b 90
+isBand b = between 65 90 b
 
 abbrev pub allBands : List ℕ → Bool
 allBands s = all isBand s
 
 abbrev pub plain : ℕ → Bool
-plain b = leb 32 b && leb b 126
+plain b = between 32 126 b
 
 abbrev pub nameOk : List ℕ → Bool
 nameOk n = leb 1 (length n) && (leb (length n) 24 && all plain n)
@@ -34,7 +38,7 @@ abbrev pub countOk : List ℕ → Bool
 countOk ls = leb 1 (length ls) && leb (length ls) 128
 
 abbrev pub lengthsOk : List ℕ → Bool
-lengthsOk ls = all (λ n. leb 1 n && leb n 64) ls
+lengthsOk ls = all (between 1 64) ls
 
 abbrev pub sumOk : List ℕ → List ℕ → Bool
 sumOk run ls = eqb (total ls) (length run)

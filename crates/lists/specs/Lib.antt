@@ -4,3 +4,4 @@ pub mod Runs
 pub mod Outcome
 pub mod Rules
 pub mod Fit
+pub mod Answers

@@ -1,1 +1,13 @@
-// A list as calls hand it over: one run of bytes and a length for each code or name. So far the rules and their tests.
+// Lists of codes and of names as calls hand them over, and the rules for them.
+mod codes;
+mod texts;
+
+pub use codes::list_ok;
+pub use texts::all_bands;
+pub use texts::name_ok;
+
+// A refusal: its number in document 01's table, and a row (0 where no row is meant).
+pub struct Refusal {
+    pub number: u8,
+    pub row: u32,
+}

@@ -6,4 +6,8 @@ pub mod Turning
 pub mod Standing
 pub mod Overlaps
 pub mod Placing
+pub mod Ways
+pub mod Comparing
+pub mod Trying
+pub mod Seeking
 pub mod Impostors

@@ -12,10 +12,10 @@ use lib.Dec.{leb}
 use borrow.Author.Tests.{leb-true}
 use lib.ListN.{length, take, drop, length-append, take-append-drop}
 use lib.Seq.{length-take-le, take-at, drop-at, drop-length}
-use Rattle.words.specs.Tests.{pick, same}
+use Rattle.words.specs.Tests.{pick}
 use Rattle.words.specs.Turn.{Turning}
 use Rattle.words.specs.Stand.{Stands}
-use Rattle.words.specs.Overlap.{Shares, Overlaps, LongestWithin, overlapFrom, overlap}
+use Rattle.words.specs.Overlap.{Shares, Overlaps, LongestWithin, agrees, overlapFrom, overlap}
 use Rattle.words.proofs.Tests.{same-eq, eq-same}
 use Rattle.words.proofs.Standing.{Between, between}
 
@@ -45,25 +45,22 @@ drop-shares a b o l e =
     }
 
 module _ (a b : List ℕ) where
-  abbrev shared? : ℕ → Bool
-  shared? o = same (drop (length a - o) a) (take o b)
-
-  hit : (o : ℕ) → shared? (suc o) ≡ true → overlapFrom (suc o) a b ≡ suc o
+  pub hit : (o : ℕ) → agrees a b (suc o) ≡ true → overlapFrom (suc o) a b ≡ suc o
   hit o e = cc
 
-  miss : (o : ℕ) → shared? (suc o) ≡ false → overlapFrom (suc o) a b ≡ overlapFrom o a b
+  pub miss : (o : ℕ) → agrees a b (suc o) ≡ false → overlapFrom (suc o) a b ≡ overlapFrom o a b
   miss o e = cc
 
   -- whatever is shared, the tests say so
-  shared-test : {m : ℕ} → Shares a b m → shared? m ≡ true
+  shared-test : {m : ℕ} → Shares a b m → agrees a b m ≡ true
   shared-test h = eq-same _ _ (shares-drop h)
 
   pub overlap-within : (k : ℕ) → k ≤ length b → LongestWithin k a b (overlapFrom k a b)
   overlap-within zero l =
       record { shares = drop-shares a b 0 l (rw (sub-zero, drop-length)); within = omega arith; most = λ m h s. h }
-  overlap-within (suc k) l = go (shared? (suc k)) refl (overlap-within k (omega arith))
+  overlap-within (suc k) l = go (agrees a b (suc k)) refl (overlap-within k (omega arith))
     where
-      go : (t : Bool) → shared? (suc k) ≡ t → LongestWithin k a b (overlapFrom k a b)
+      go : (t : Bool) → agrees a b (suc k) ≡ t → LongestWithin k a b (overlapFrom k a b)
           → LongestWithin (suc k) a b (overlapFrom (suc k) a b)
       go true e r =
           let s = drop-shares a b (suc k) l (same-eq (drop (length a - suc k) a) (take (suc k) b) e) in
@@ -76,7 +73,7 @@ module _ (a b : List ℕ) where
               let ne : m ≢ suc k = λ q. true≢false (sym (shared-test (rw q at x)) ∙ e) in
               r .most m (omega arith) x
 
-least-right : (m n : ℕ) → pick (leb m n) m n ≤ n
+pub least-right : (m n : ℕ) → pick (leb m n) m n ≤ n
 least-right m n = go (leb m n) refl
   where
     go : (t : Bool) → leb m n ≡ t → pick t m n ≤ n

@@ -3,6 +3,7 @@ pub mod Lists
 pub mod Tests
 pub mod Decides
 pub mod Turn
+pub mod Ways
 pub mod Stand
 pub mod Overlap
 pub mod Place

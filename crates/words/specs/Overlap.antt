@@ -1,6 +1,6 @@
 -- The overlap of two words: the length of the longest ending of the one that is also a beginning of the other.
 use mathlib.Core.Path.{_≡_}
-use mathlib.Core.Bool.{true, false}
+use mathlib.Core.Bool.{Bool, true, false}
 use mathlib.Core.List.{List, _++_}
 use Prim.Native.Nat.{ℕ, zero, suc, _-_, _≤_}
 use lib.Dec.{leb}
@@ -30,9 +30,13 @@ pub record LongestWithin (k : ℕ) (a b : List ℕ) (o : ℕ) : Type 0 where
   pub within : o ≤ k
   pub most : (m : ℕ) → m ≤ k → Shares a b m → m ≤ o
 
+-- the last k bands of a are the first k of b
+abbrev pub agrees : List ℕ → List ℕ → ℕ → Bool
+agrees a b k = same (drop (length a - k) a) (take k b)
+
 abbrev pub overlapFrom : ℕ → List ℕ → List ℕ → ℕ
 overlapFrom zero a b = 0
-overlapFrom (suc o) a b = elim (same (drop (length a - suc o) a) (take (suc o) b)) [
+overlapFrom (suc o) a b = elim (agrees a b (suc o)) [
   | true ↦ suc o
   | false ↦ overlapFrom o a b
 ]

@@ -1,1 +1,10 @@
-// Rows of bands (strings): turned forms, standing, overlaps and places. So far the definitions and their laws.
+// Words: rows of bands (strings).
+mod bands;
+mod endings;
+mod starts;
+
+pub use bands::band_at;
+pub use bands::same;
+pub use endings::overlap;
+pub use starts::stands;
+pub use starts::stands_way;

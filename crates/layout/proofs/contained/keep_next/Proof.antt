@@ -1,0 +1,88 @@
+use mathlib.Core.Path.{sym, _∙_}
+use Rattle.layout.proofs.Sieving.{sieve-drop, sieve-keep}
+use borrow.Author.Needs.{needs}
+use native.Mathlib.Omega.{arith}
+use Rattle.layout.proofs.contained.keep_next.Statement.{statement}
+use Rattle.layout.proofs.contained.keep_next.Tie as tie
+use Rattle.layout.proofs.contained.keep_next.Reads as reads
+use Rattle.layout.proofs.contained.keep_next.Lts as lts
+use Rattle.layout.proofs.contained.is_dropped.Reads as is-dropped-reads
+
+-- src/contained.rt:56:8
+is-dropped-requires : tie.Need-is-dropped-requires
+is-dropped-requires c κs = search needs
+
+-- src/contained.rt:57:9
+returns : tie.Need-returns
+returns c =
+    let k = c .before .before .before .before .before .before .before in
+    sieve-drop (k .pre .0) (k .pre .2) (k .pre .1) (sym (c .if1 .taken) ∙ c .before .is-dropped .ensures)
+
+-- src/contained.rt:59:21
+mul-kstarts : tie.Need-mul-kstarts
+mul-kstarts c = search needs
+
+-- src/contained.rt:59:21
+shared-slice-read-kstarts : tie.Need-shared-slice-read-kstarts
+shared-slice-read-kstarts c = search needs
+
+-- src/contained.rt:59:5
+mul-kstarts-2 : tie.Need-mul-kstarts-2
+mul-kstarts-2 c = search needs
+
+-- src/contained.rt:59:5
+slice-write-kstarts : tie.Need-slice-write-kstarts
+slice-write-kstarts c = search needs
+
+-- src/contained.rt:60:20
+mul-ksizes : tie.Need-mul-ksizes
+mul-ksizes c = search needs
+
+-- src/contained.rt:60:20
+shared-slice-read-ksizes : tie.Need-shared-slice-read-ksizes
+shared-slice-read-ksizes c = search needs
+
+-- src/contained.rt:60:5
+mul-ksizes-2 : tie.Need-mul-ksizes-2
+mul-ksizes-2 c = search needs
+
+-- src/contained.rt:60:5
+slice-write-ksizes : tie.Need-slice-write-ksizes
+slice-write-ksizes c = search needs
+
+-- src/contained.rt:61:5
+add-result : tie.Need-add-result
+add-result c = search needs
+
+-- src/contained.rt:52:1
+same-length : tie.Need-same-length
+same-length c = search needs
+
+-- src/contained.rt:52:1
+same-length-2 : tie.Need-same-length-2
+same-length-2 c = search needs
+
+-- src/contained.rt:52:1
+returns-2 : tie.Need-returns-2
+returns-2 c =
+    let k = c .before .before .before .before .before .before .before .before .before in
+    sieve-keep (k .pre .0) (k .pre .2) (k .pre .1) (sym (c .before .before .if1 .left) ∙ c .before .before .before .is-dropped .ensures)
+
+pub keep-next-spec : {M : Type 1} → statement M
+keep-next-spec =
+    tie.close
+    (tie.spec
+    is-dropped-requires
+    returns
+    mul-kstarts
+    shared-slice-read-kstarts
+    mul-kstarts-2
+    slice-write-kstarts
+    mul-ksizes
+    shared-slice-read-ksizes
+    mul-ksizes-2
+    slice-write-ksizes
+    add-result
+    same-length
+    same-length-2
+    returns-2)

@@ -1,0 +1,22 @@
+use borrow.Author.Needs.{needs}
+use native.Mathlib.Omega.{arith}
+use borrow.Author.Tests.{lt-ltb, le-ltb, eq-eqb, ne-eqb}
+use Rattle.layout.proofs.contained.outranks_by.Statement.{statement}
+use Rattle.layout.proofs.contained.outranks_by.Tie as tie
+use Rattle.layout.proofs.contained.outranks_by.Reads as reads
+use Rattle.layout.proofs.contained.outranks_by.Lts as lts
+
+-- src/contained.rt:18:9
+returns : tie.Need-returns
+returns c = simp (lt-ltb _ _ (c .if1 .taken))
+
+-- src/contained.rt:21:9
+returns-2 : tie.Need-returns-2
+returns-2 c = simp (le-ltb _ _ (c .before .if1 .left), eq-eqb _ _ (c .if2 .taken))
+
+-- src/contained.rt:14:1
+returns-3 : tie.Need-returns-3
+returns-3 c = simp (le-ltb _ _ (c .before .if1 .left), ne-eqb _ _ (c .if2 .left))
+
+pub outranks-by-spec : {M : Type 1} → statement M
+outranks-by-spec = tie.close (tie.spec returns returns-2 returns-3)

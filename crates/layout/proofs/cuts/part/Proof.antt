@@ -1,0 +1,60 @@
+use lib.ListN.{getD}
+use Rattle.layout.proofs.Parts.{from-to}
+use borrow.Author.Needs.{needs}
+use native.Mathlib.Omega.{arith}
+use Rattle.layout.proofs.cuts.part.Statement.{statement}
+use Rattle.layout.proofs.cuts.part.Tie as tie
+use Rattle.layout.proofs.cuts.part.Reads as reads
+use Rattle.layout.proofs.cuts.part.Lts as lts
+
+-- src/cuts.rt:35:16
+mul-from : tie.Need-mul-from
+mul-from c = search needs
+
+-- src/cuts.rt:35:16
+shared-slice-read-from : tie.Need-shared-slice-read-from
+shared-slice-read-from c = search needs
+
+-- src/cuts.rt:36:21
+mul-to : tie.Need-mul-to
+mul-to c = search needs
+
+-- src/cuts.rt:36:21
+shared-slice-read-to : tie.Need-shared-slice-read-to
+shared-slice-read-to c = search needs
+
+-- src/cuts.rt:36:14
+add-to : tie.Need-add-to
+add-to c = search needs
+
+-- src/cuts.rt:37:5
+sub-result : tie.Need-sub-result
+sub-result c = search needs
+
+-- src/cuts.rt:37:5
+part-result-start : tie.Need-part-result-start
+part-result-start c = search needs
+
+-- src/cuts.rt:37:5
+part-result-end : tie.Need-part-result-end
+part-result-end c = search needs
+
+-- src/cuts.rt:31:1
+returns : tie.Need-returns
+returns c =
+    let a = c .before .before .before .args in
+    from-to (a .bands .now) (getD (a .starts .now) (a .k) 0) (getD (a .sizes .now) (a .k) 0)
+
+pub part-spec : {M : Type 1} → statement M
+part-spec =
+    tie.close
+    (tie.spec
+    mul-from
+    shared-slice-read-from
+    mul-to
+    shared-slice-read-to
+    add-to
+    sub-result
+    part-result-start
+    part-result-end
+    returns)

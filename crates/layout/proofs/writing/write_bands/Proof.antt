@@ -1,0 +1,102 @@
+use lib.Seq.{take-all}
+use Rattle.layout.proofs.Steps.{face-at, write-fits, write-end, write-next}
+use borrow.Author.Needs.{needs}
+use native.Mathlib.Omega.{arith}
+use mathlib.Core.Path.{_≡_}
+use Prim.Native.Nat.{_-_, _≤_}
+use lib.ListN.{length, take}
+use Rattle.lists.specs.Runs.{over}
+use Rattle.layout.specs.Parts.{partRibbon}
+use Rattle.layout.proofs.writing.write_bands.Statement.{statement}
+use Rattle.layout.proofs.writing.write_bands.Tie as tie
+use Rattle.layout.proofs.writing.write_bands.Reads as reads
+use Rattle.layout.proofs.writing.write_bands.Lts as lts
+use Rattle.layout.proofs.cuts.part.Reads as part-reads
+use Rattle.layout.proofs.writing.skip_at.Reads as skip-at-reads
+use Rattle.layout.proofs.writing.write_way.Reads as write-way-reads
+
+abbrev Inv-loop : tie.InvT-loop
+Inv-loop bands starts sizes n order ribbon₀ at₀ i₀ ribbon at i = (i ≤ length order) × (length ribbon ≡ length ribbon₀) × (at ≡ length (partRibbon bands starts sizes n (take i order))) × (ribbon ≡ over (partRibbon bands starts sizes n (take i order)) ribbon₀)
+
+abbrev μ-loop : tie.MeasureT-loop
+μ-loop bands starts sizes n order ribbon₀ at₀ i₀ ribbon at i = length order - i
+
+-- src/writing.rt:76:5
+loop-holds : tie.Need-loop-holds Inv-loop μ-loop
+loop-holds c = search needs
+
+-- src/writing.rt:77:13
+skip-at-requires : tie.Need-skip-at-requires Inv-loop μ-loop
+skip-at-requires c κs = search needs
+
+-- src/writing.rt:78:17
+mul-f : tie.Need-mul-f Inv-loop μ-loop
+mul-f c = search needs
+
+-- src/writing.rt:78:17
+shared-slice-read-f : tie.Need-shared-slice-read-f Inv-loop μ-loop
+shared-slice-read-f c = search needs
+
+-- src/writing.rt:79:24
+part-requires : tie.Need-part-requires Inv-loop μ-loop
+part-requires c κs = face-at (c .before .before .before .before .before .before .before .before .before .pre .0) (c .before .before .loop-test .taken)
+
+-- src/writing.rt:79:9
+write-way-requires : tie.Need-write-way-requires Inv-loop μ-loop
+write-way-requires c κs =
+    let k = c .before .before .before .before .before .before .before .before .before .before .before in
+    let l = c .before .before .before .before .before .loop in
+    write-fits (k .pre .0) (c .before .before .before .before .loop-test .taken) (c .before .part .ensures) (c .before .before .before .skip-at .ensures) (l .inv .2)
+    (omega (arith, l .inv .1, k .pre .1))
+
+-- src/writing.rt:80:9
+add-i : tie.Need-add-i Inv-loop μ-loop
+add-i c = search needs
+
+-- src/writing.rt:76:5
+loop-less : tie.Need-loop-less Inv-loop μ-loop
+loop-less c = search needs
+
+-- src/writing.rt:76:5
+loop-again : tie.Need-loop-again Inv-loop μ-loop
+loop-again c =
+    let k = c .before .before .before .before .before .before .before .before .before .before .before .before .before .before in
+    let l = c .before .before .before .before .before .before .before .before .loop in
+    let h = c .before .before .before .before .before .before .before .loop-test .taken in
+    let p = c .before .before .before .before .part .ensures in
+    let s = c .before .before .before .before .before .before .skip-at .ensures in (
+      search needs,
+      search needs,
+      write-end (k .pre .0) h p s (l .inv .2) (c .before .before .write-way .ensures .0),
+      write-next (k .pre .0) h p s (l .inv .2) (k .args .ribbon .now) (l .inv .3) (c .before .before .write-way .ensures .1),
+    )
+
+-- src/writing.rt:70:1
+same-length : tie.Need-same-length Inv-loop μ-loop
+same-length c = search needs
+
+-- src/writing.rt:70:1
+returns : tie.Need-returns Inv-loop μ-loop
+returns c =
+    let l = c .before .loop in
+    let p = c .before .before .before .before .before .before .before .args .order .now in
+    let e : take (l .i) p ≡ p = take-all (l .i) p (search needs) in
+    rw (← e) (l .inv .3)
+
+pub write-bands-spec : {M : Type 1} → statement M
+write-bands-spec =
+    tie.close
+    (tie.spec
+    Inv-loop
+    μ-loop
+    loop-holds
+    skip-at-requires
+    mul-f
+    shared-slice-read-f
+    part-requires
+    write-way-requires
+    add-i
+    loop-less
+    loop-again
+    same-length
+    returns)

@@ -1,0 +1,98 @@
+// The ribbon of an order of faces, whatever the order: its length, what it saves, and its bands.
+ghost use mathlib.Core.Path.{_≡_};
+ghost use Prim.Native.Nat.{_+_, _-_, _/_, _<_, _≤_};
+ghost use lib.ListN.{length, drop, getD};
+ghost use lib.Seq.{paste};
+ghost use Rattle.words.specs.Ways.{wayOf};
+ghost use Rattle.lists.specs.Runs.{over};
+ghost use Rattle.layout.specs.Parts.{InOrder, partSkip, partRibbon, Measures};
+use crate::cuts::part;
+use crate::overlaps::face_overlap;
+
+// A ribbon's length and what it saves.
+pub struct Sums {
+    pub bands: usize,
+    pub saved: usize,
+}
+
+// What face number i of an order shares with the one before it; nothing for the first.
+fn skip_at(
+    bands: &[u8],
+    starts: &[usize],
+    sizes: &[usize],
+    n: usize,
+    order: &[usize],
+    i: usize,
+) -> usize
+    requires { ⌜ InOrder (now bands) (now starts) (now sizes) n (now order) × (i < length (now order)) ⌝ }
+    ensures { λ r. ⌜ r ≡ partSkip (now (bands .entry)) (now (starts .entry)) (now (sizes .entry)) n (now (order .entry)) i ⌝ }
+{
+    if i == 0 {
+        return 0;
+    }
+    face_overlap(bands, starts, sizes, order[i - 1], order[i])
+}
+
+// The size of face number i of an order.
+fn size_at(sizes: &[usize], order: &[usize], i: usize) -> usize
+    requires { ⌜ (i < length (now order)) × (getD (now order) i 0 / 2 < length (now sizes)) ⌝ }
+    ensures { λ r. ⌜ r ≡ getD (now (sizes .entry)) (getD (now (order .entry)) i 0 / 2) 0 ⌝ }
+{
+    let k = order[i] / 2;
+    sizes[k]
+}
+
+// The sums along an order: what each face adds, and what it shares.
+pub fn measure(bands: &[u8], starts: &[usize], sizes: &[usize], n: usize, order: &[usize]) -> Sums
+    requires { ⌜ InOrder (now bands) (now starts) (now sizes) n (now order) ⌝ }
+    ensures { λ r. ⌜ Measures (now (bands .entry)) (now (starts .entry)) (now (sizes .entry)) n (now (order .entry)) (r .bands) (r .saved) ⌝ }
+{
+    let mut long = 0;
+    let mut saved = 0;
+    let mut i = 0;
+    while i < order.len() {
+        let o = skip_at(bands, starts, sizes, n, order, i);
+        long += size_at(sizes, order, i) - o;
+        saved += o;
+        i += 1;
+    }
+    Sums {
+        bands: long,
+        saved: saved,
+    }
+}
+
+// The bands of a way of c past the first o are written from `at` on; the place behind them.
+fn write_way(c: &[u8], way: bool, o: usize, ribbon: &mut [u8], at: usize) -> usize
+    requires { ⌜ (o ≤ length (now c)) × (at + (length (now c) - o) ≤ length (now ribbon)) ⌝ }
+    ensures { λ r. ⌜ (r ≡ at + (length (now (c .entry)) - o)) × (now (ribbon .exit) ≡ paste (now (ribbon .entry)) at (drop o (wayOf way (now (c .entry)))) (length (now (c .entry)) - o)) ⌝ }
+{
+    let mut j = 0;
+    while j < c.len() - o {
+        ribbon[at + j] = words::band_at(c, way, o + j);
+        j += 1;
+    }
+    at + j
+}
+
+// The ribbon at the beginning of a row that has room for it.
+pub fn write_bands(
+    bands: &[u8],
+    starts: &[usize],
+    sizes: &[usize],
+    n: usize,
+    order: &[usize],
+    ribbon: &mut [u8],
+)
+    requires { ⌜ InOrder (now bands) (now starts) (now sizes) n (now order) × (length (partRibbon (now bands) (now starts) (now sizes) n (now order)) ≤ length (now ribbon)) ⌝ }
+    ensures { λ _. ⌜ now (ribbon .exit) ≡ over (partRibbon (now (bands .entry)) (now (starts .entry)) (now (sizes .entry)) n (now (order .entry))) (now (ribbon .entry)) ⌝ }
+{
+    let mut at = 0;
+    let mut i = 0;
+    while i < order.len() {
+        let o = skip_at(bands, starts, sizes, n, order, i);
+        let f = order[i];
+        at = write_way(part(bands, starts, sizes, f / 2), f % 2 == 1, o, ribbon, at);
+        i += 1;
+    }
+}
