@@ -48,7 +48,7 @@ last-in js f (g ∷ []) r e (inl q) = sym q
 last-in js f (g ∷ (k ∷ p)) r e (inl q) = absurd (omega (arith, ap (λ (x : ℕ). afterIn x js) q, r .0 .0))
 last-in js f (g ∷ (k ∷ p)) r e (inr i) = last-in js f (k ∷ p) (r .1) e i
 
-head-in : (js : List Join) (f : ℕ) (p : List ℕ) → Piece js p → afterIn (mirror f) js ≡ 0 → In f p → headOf p ≡ f
+pub head-in : (js : List Join) (f : ℕ) (p : List ℕ) → Piece js p → afterIn (mirror f) js ≡ 0 → In f p → headOf p ≡ f
 head-in js f p P e i =
     let F = piece-flip js p P in
     let m : In (mirror f) (flip p) = in-flip (mirror f) p (subst (λ (x : ℕ). In x p) (sym (mirror-mirror f)) i) in

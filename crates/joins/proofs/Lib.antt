@@ -21,17 +21,14 @@ pub mod Search
 pub mod Ties
 pub mod Rounds
 pub mod Order
--- The best join is one alone, so overlaps that agree in range give the same joins.
-pub mod Only
-pub mod Agree
--- What the routine does, over rows.
+-- The row of the joining routines: walked, stored into, written out.
 pub mod Walks
-pub mod Scans
-pub mod Finding
-pub mod Laying
+pub mod Storing
 pub mod Written
-pub mod Answers
+pub mod Following
 -- The claim leaves no choice.
 pub mod Claims
+-- One pass makes the same joins as the rounds.
+pub mod Passing
 -- Wrong ways of joining, caught by it.
 pub mod Impostors

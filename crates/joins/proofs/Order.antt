@@ -46,7 +46,8 @@ read-piece n js p P l z =
     ap (λ (x : ℕ). pieceFrom (2 * n) x js) s ∙ read-linked js (2 * n) p (P .some) (P .linked) (P .ends) l
 
 -- its faces are in range
-held-below : {n : ℕ} {js : List Join} {p : List ℕ} {R : List (List ℕ)} → State n js (p ∷ R) → (f : ℕ) → In f p → f < 2 * n
+held-below : {n : ℕ} {js : List Join} {p : List ℕ} {R : List (List ℕ)} → State n js (p ∷ R) → (f : ℕ) → In f p
+    → f < 2 * n
 held-below {p = p} i f u =
     let t = in-times f p u in
     let h = state-only i (f / 2) (omega arith) in

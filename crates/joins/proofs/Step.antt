@@ -27,7 +27,7 @@ module _ (a b : ℕ) (js : List Join) where
 
   module _ (open-a : afterIn a js ≡ 0) (open-b : afterIn (mirror b) js ≡ 0) where
     -- what was linked stays linked
-    after-kept : (f g : ℕ) → afterIn f js ≡ suc g → afterIn f (joinBoth a b js) ≡ suc g
+    pub after-kept : (f g : ℕ) → afterIn f js ≡ suc g → afterIn f (joinBoth a b js) ≡ suc g
     after-kept f g l = after-same f (not-open a open-a) (not-open (mirror b) open-b) ∙ l
       where
         not-open : (x : ℕ) → afterIn x js ≡ 0 → f ≢ x

@@ -1,17 +1,16 @@
 -- Following a row from face to face, step by step as the definitions do with their fuel: where nothing comes after a face
 -- the walk stops, and else goes on.
 use mathlib.Core.Path.{_≡_, refl, sym, ap, _∙_}
-use mathlib.Core.Logic.{_⊎_, inl, inr, _≢_}
-use mathlib.Core.List.{List, [], _∷_, _++_}
+use mathlib.Core.Logic.{inl, inr, _≢_}
+use mathlib.Core.List.{List}
 use Prim.Native.Nat.{ℕ, zero, suc, _+_, _-_, _*_, _%_, _≤_, _<_}
 use native.Mathlib.Omega.{arith}
-use borrow.Author.Tests.{eq-eqb, ne-eqb}
 use lib.ListN.{length, getD, set}
 use lib.Seq.{getD-set-same, getD-set-other}
 use native.Mathlib.Decide.{ℕ-discrete}
 use Rattle.joins.specs.Faces.{mirror, Join}
-use Rattle.joins.specs.Rounds.{afterIn, endFrom, pieceFrom}
-use Rattle.joins.specs.Rows.{Row, Records, EndsAt, HeadEndsAt, Ends}
+use Rattle.joins.specs.Rounds.{afterIn, endFrom}
+use Rattle.joins.specs.Rows.{Row, Records, EndsAt}
 use Rattle.joins.proofs.Mirrors.{Sides, sides}
 use Rattle.joins.proofs.Allowed.{end-stop, end-go}
 
@@ -78,23 +77,3 @@ module _ {n : ℕ} {after : List ℕ} {f at left : ℕ} (r : Walk n after f at l
             let e : afterIn at js ≡ suc (getD after at 0 - 1) = omega (arith, h at (r .within)) in
             sym (goes left at (getD after at 0 - 1) js l e) ∙ r .same js h;
       }
-
--- no end is asked for where the face begins no piece
-pub not-head : {n : ℕ} {after : List ℕ} {f m r : ℕ} → f < 2 * n → m ≡ mirror f → getD after m 0 ≢ 0
-    → HeadEndsAt n after f r
-not-head {n} {after} {f} l e d =
-    record {
-      end = λ js h b. absurd (d (ap (λ (x : ℕ). getD after x 0) e ∙ h (mirror f) (mirror-below n f l) ∙ b));
-    }
-
--- one more end marked
-pub ends-more : {n : ℕ} {after : List ℕ} {f : ℕ} {last : List ℕ} {r : ℕ} → f < length last → Ends n after f last
-    → HeadEndsAt n after f r → Ends n after (f + 1) (set last f r)
-ends-more {n} {after} {f} {last} {r} l h e = record { ends = λ g k. go g k (ℕ-discrete g f) }
-  where
-    go : (g : ℕ) → g < f + 1 → Dec (g ≡ f) → HeadEndsAt n after g (getD (set last f r) g 0)
-    go g k (yes q) = rw (q, getD-set-same last f r 0 l) e
-    go g k (no d) = rw (getD-set-other last f g r 0 d) (h .ends g (omega arith))
-
-pub ends-all : {n : ℕ} {after : List ℕ} {f m : ℕ} {last : List ℕ} → m ≤ f → Ends n after f last → Ends n after m last
-ends-all l h = record { ends = λ g k. h .ends g (omega arith) }

@@ -2,5 +2,5 @@
 pub mod Faces
 pub mod Rules
 pub mod Rounds
-pub mod Tables
 pub mod Rows
+pub mod Pass

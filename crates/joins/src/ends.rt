@@ -1,9 +1,8 @@
 // From a face to the end of its piece. `after` has at each face the face after it plus 1, and 0 where it ends a piece.
 ghost use mathlib.Core.Path.{_≡_};
-ghost use Prim.Native.Nat.{_*_, _≤_, _<_};
-ghost use lib.ListN.{length};
+ghost use Prim.Native.Nat.{_*_, _<_};
 ghost use Rattle.joins.specs.Faces.{mirror};
-ghost use Rattle.joins.specs.Rows.{Row, EndsAt, HeadEndsAt, Ends};
+ghost use Rattle.joins.specs.Rows.{Row, EndsAt};
 
 // The other face of the same code.
 pub fn mirror_of(f: usize) -> usize
@@ -32,27 +31,4 @@ pub fn end_from(after: &[usize], n: usize, f: usize) -> usize
         left -= 1;
     }
     at
-}
-
-// The same where f begins a piece. No other face is asked for.
-fn end_of_head(after: &[usize], n: usize, f: usize) -> usize
-    requires { ⌜ Row n (now after) × (f < 2 * n) ⌝ }
-    ensures { λ r. ⌜ HeadEndsAt n (now (after .entry)) f r ⌝ }
-{
-    if after[mirror_of(f)] == 0 {
-        return end_from(after, n, f);
-    }
-    0
-}
-
-// The last faces of all pieces, each at the face that begins the piece.
-pub fn mark_ends(after: &[usize], n: usize, last: &mut [usize])
-    requires { ⌜ Row n (now after) × (256 ≤ length (now last)) ⌝ }
-    ensures { λ _. ⌜ Ends n (now (after .entry)) (2 * n) (now (last .exit)) ⌝ }
-{
-    let mut f = 0;
-    while f < 2 * n {
-        last[f] = end_of_head(after, n, f);
-        f += 1;
-    }
 }

@@ -6,8 +6,11 @@ pub mod Reading
 pub mod Parts
 pub mod Cutting
 pub mod Sieving
-pub mod Filling
 pub mod Steps
+pub mod Passing
+pub mod Sides
+pub mod Rising
+pub mod Picking
 pub mod Rival
 pub mod Laying
 pub mod Claims

@@ -1,5 +1,5 @@
--- The stages put together: the order found with the table is the one of the overlaps, the ribbon of an order is given or
--- refused by its length, and the outcome of the whole is that of the kept codes.
+-- The stages put together: the ribbon of an order is given or refused by its length, and the outcome of the whole is that
+-- of the kept codes in the order that joining gives.
 use mathlib.Core.Path.{_≡_, refl, sym, ap, _∙_}
 use mathlib.Core.Bool.{Bool, true, false, not}
 use mathlib.Core.List.{List, [], _∷_, _++_}
@@ -17,34 +17,19 @@ use Rattle.lists.specs.Refusals.{whole, falseList, stuck, shortBuffer}
 use Rattle.lists.specs.Fit.{listOk}
 use Rattle.lists.specs.Outcome.{outcome}
 use Rattle.joins.specs.Rounds.{layoutOf, orderOf}
-use Rattle.joins.specs.Tables.{inTable, orderingOf, OrdersInto}
-use Rattle.joins.specs.declared.Ordering.{Ordering}
-use Rattle.joins.specs.declared.Ordering.the-variants.{Stuck, Faces}
-use Rattle.joins.proofs.Agree.{stuck-agree, order-agree}
+use Rattle.joins.specs.Rows.{Wrote}
+use Rattle.joins.proofs.Rounds.{never-stuck}
 use Rattle.joins.proofs.Order.{order-short, order-within}
 use Rattle.layout.specs.Dropping.{kept}
+use Rattle.layout.specs.Reading.{shared}
 use Rattle.layout.specs.Layout.{ribbonFor, savedBy, isStuck, orderFor}
-use Rattle.layout.specs.Parts.{partsOf, partShared, InRun, InOrder, Filled, Measures, partRibbon, partSaved}
+use Rattle.layout.specs.Parts.{partsOf, partShared, InRun, InOrder, Measures, partRibbon}
 use Rattle.layout.specs.Answers.{LayOutcome, LayAnswer, Gives, answerOf, orderOutcome, keptOutcome, layOutcome, layFault}
 use Rattle.layout.specs.Answers as a
 use Rattle.layout.proofs.Parts.{parts-length}
 use Rattle.layout.proofs.Answers.{byTests}
 use Rattle.layout.specs.declared.Laid.{Laid}
 use Rattle.layout.specs.declared.Laid.the-variants.{Ribbon}
-
--- the order from a filled table
-pub ordered : {n : ℕ} {w : ℕ → ℕ → ℕ} {table before after : List ℕ} {r : Ordering} → Filled w (2 * n) table (2 * n) (2 * n)
-    → OrdersInto n (inTable table) before after r → OrdersInto n w before after r
-ordered {n} {w} {table} filled o =
-    let s = stuck-agree n (inTable table) w same in
-    let p = order-agree n (inTable table) w same in
-    record {
-      answer = o .answer ∙ cc (s, p);
-      written = λ e. rw (← p) (o .written (s ∙ e));
-    }
-  where
-    same : (x y : ℕ) → x < 2 * n → y < 2 * n → inTable table x y ≡ w x y
-    same x y h k = filled .rows x y h k h
 
 -- the ribbon of an order: too long for the buffer, or written
 module _ {run starts sizes : List ℕ} {n : ℕ} {p : List ℕ} {bands saved : ℕ} (m : Measures run starts sizes n p bands saved)
@@ -66,70 +51,45 @@ module _ {run starts sizes : List ℕ} {n : ℕ} {p : List ℕ} {bands saved : �
       let t = room false (le-ltb (length buffer) bands l) in
       record { answer = rw (t, orderOutcome) (cc (m .long, m .saves)); left = rw (t, orderOutcome) e }
 
--- what an order's answer tells
-module _ {n : ℕ} {w : ℕ → ℕ → ℕ} {before after : List ℕ} {r : Ordering} (o : OrdersInto n w before after r) where
-  pub is-stuck : r ≡ Stuck → layoutOf n w .stuck ≡ true
-  is-stuck e = go (layoutOf n w .stuck) refl
-    where
-      go : (t : Bool) → layoutOf n w .stuck ≡ t → layoutOf n w .stuck ≡ true
-      go true f = f
-      go false f = let z : Stuck ≡ Faces (length (orderOf n w)) = sym e ∙ o .answer ∙ rw (f, orderingOf) in cc
+-- the kept codes, laid out in the order that joining gives: no list gets stuck
+module _ (run starts sizes : List ℕ) (n : ℕ) {before after : List ℕ} {r : ℕ}
+    (o : Wrote (orderOf n (partShared run starts sizes n)) before after r) where
+  abbrev order : List ℕ
+  order = orderOf n (partShared run starts sizes n)
 
-  pub is-ordered : {count : ℕ} → r ≡ Faces count → (layoutOf n w .stuck ≡ false) × (take count after ≡ orderOf n w) × (count ≡ length (orderOf n w))
-  is-ordered {count} e = go (layoutOf n w .stuck) refl
-    where
-      go : (t : Bool) → layoutOf n w .stuck ≡ t
-          → (layoutOf n w .stuck ≡ false) × (take count after ≡ orderOf n w) × (count ≡ length (orderOf n w))
-      go true f = let z : Stuck ≡ Faces count = sym (sym e ∙ o .answer ∙ rw (f, orderingOf)) in absurd (stuck-or-not z)
-        where
-          stuck-or-not : Stuck ≡ Faces count → ⊥
-          stuck-or-not q = let i : _≡_ {A = ℕ} 0 1 = cc in omega arith
-      go false f =
-          let z : Faces count ≡ Faces (length (orderOf n w)) = sym e ∙ o .answer ∙ rw (f, orderingOf) in
-          let l : count ≡ length (orderOf n w) = cc in
-          let p : take count after ≡ take (length (orderOf n w)) (orderOf n w ++ drop (length (orderOf n w)) before) = cc (o .written f) in
-          (f, p ∙ take-append-seam (orderOf n w) (drop (length (orderOf n w)) before), l)
+  taken : take r after ≡ order
+  taken = cc (o .count, o .written, take-append-seam order (drop (length order) before))
 
-  pub counted : {count : ℕ} → r ≡ Faces count → n ≤ 128 → count ≤ 256
-  counted e h = omega (arith, is-ordered e .2, order-short n w)
+  pub counted : n ≤ 128 → r ≤ 256
+  counted h = omega (arith, o .count, order-short n (partShared run starts sizes n))
 
--- the kept codes: stuck, or laid out in the order that joining gives
-module _ (run starts sizes : List ℕ) {n : ℕ} {before after : List ℕ} {r : Ordering}
-    (o : OrdersInto n (partShared run starts sizes n) before after r) where
-  pub gives-stuck : (buffer : List ℕ) {x : Laid} → r ≡ Stuck → answerOf x ≡ a.refused (whole stuck)
-      → Gives (keptOutcome (partsOf run starts sizes n) buffer) buffer x
-  unfolding keptOutcome
-  gives-stuck buffer e f =
-      let t : layoutOf (length (partsOf run starts sizes n)) (partShared run starts sizes n) .stuck ≡ true = rw (parts-length run starts sizes n) (is-stuck o e) in
-      record { answer = rw (t, keptOutcome) f; left = rw (t, keptOutcome) }
-
-  pub gives-ordered : (buffer : List ℕ) {count : ℕ} {left : List ℕ} {x : Laid} → r ≡ Faces count
-      → Gives (orderOutcome (partsOf run starts sizes n) (take count after) buffer) left x → Gives (keptOutcome (partsOf run starts sizes n) buffer) left x
-  unfolding keptOutcome
-  gives-ordered buffer {count} e g =
-      let i = is-ordered o e in
-      let t : layoutOf (length (partsOf run starts sizes n)) (partShared run starts sizes n) .stuck ≡ false = rw (parts-length run starts sizes n) (i .0) in
-      let p : take count after ≡ orderFor turned (partsOf run starts sizes n) = rw (parts-length run starts sizes n) (i .1) in
-      let q = ap (λ (l : List ℕ). orderOutcome (partsOf run starts sizes n) l buffer) p in
-      record {
-        answer = rw (t, keptOutcome) (g .answer ∙ ap (λ (u : LayOutcome). u .answer) q);
-        left = rw (t, keptOutcome) (g .left ∙ ap (λ (u : LayOutcome). u .after) q);
-      }
-
-  pub in-order : InRun run starts sizes n → {count : ℕ} → r ≡ Faces count → InOrder run starts sizes n (take count after)
-  in-order h e =
-      let i = is-ordered o e in
-      rw (i .1)
+  pub in-order : InRun run starts sizes n → InOrder run starts sizes n (take r after)
+  in-order h =
+      rw taken
       (record {
         in-run = h;
         few = omega (arith, order-short n (partShared run starts sizes n), h .few);
-        faces = λ k l. each-at (orderOf n (partShared run starts sizes n)) (order-within n (partShared run starts sizes n)) k l;
+        faces = λ k l. each-at order (order-within n (partShared run starts sizes n)) k l;
       })
     where
       each-at : (p : List ℕ) → Each (λ (f : ℕ). f < 2 * n) p → (k : ℕ) → k < length p → getD p k 0 < 2 * n
       each-at [] t k l = absurd (omega arith)
       each-at (f ∷ p) t zero l = t .0
       each-at (f ∷ p) t (suc k) l = each-at p (t .1) k (omega arith)
+
+  pub gives-ordered : (buffer : List ℕ) {left : List ℕ} {x : Laid}
+      → Gives (orderOutcome (partsOf run starts sizes n) (take r after) buffer) left x
+      → Gives (keptOutcome (partsOf run starts sizes n) buffer) left x
+  unfolding keptOutcome
+  gives-ordered buffer g =
+      let ks = partsOf run starts sizes n in
+      let t = never-stuck (length ks) (shared turned ks) in
+      let p : take r after ≡ orderFor turned ks = rw (parts-length run starts sizes n) taken in
+      let q = ap (λ (l : List ℕ). orderOutcome ks l buffer) p in
+      record {
+        answer = rw (t, keptOutcome) (g .answer ∙ ap (λ (u : LayOutcome). u .answer) q);
+        left = rw (t, keptOutcome) (g .left ∙ ap (λ (u : LayOutcome). u .after) q);
+      }
 
 -- the whole: a false list is refused before anything, and else the outcome is that of the kept codes
 module _ (run ls buffer : List ℕ) where

@@ -3,6 +3,8 @@
 pub mod Dropping
 pub mod Reading
 pub mod Parts
+pub mod Passing
+pub mod Sorted
 pub mod Rules
 pub mod Layout
 pub mod Laid

@@ -10,8 +10,6 @@ use Rattle.words.specs.Stand.{someWay}
 use Rattle.words.specs.Ways.{wayOf}
 use Rattle.words.specs.Overlap.{overlap}
 use Rattle.lists.specs.Runs.{total}
-use Rattle.joins.specs.Faces.{mirror}
-use Rattle.joins.specs.Tables.{inTable}
 use Rattle.layout.specs.Dropping.{codeAt, without, heldBy, isDropped, kept}
 use Rattle.layout.specs.Reading.{shared, skipAt, readPiece, savedAlong}
 
@@ -77,15 +75,6 @@ pub record Sieved (run starts sizes : List ℕ) (n : ℕ) (starts' sizes' : List
 pub record KeepsInto (run starts sizes : List ℕ) (n : ℕ) (starts' sizes' : List ℕ) (r : ℕ) : Type 0 where
   pub in-run : InRun run starts' sizes' r
   pub parts : partsOf run starts' sizes' r ≡ kept turned (partsOf run starts sizes n)
-
--- A table of rows of 256 holds the overlap from each face below m to each, in rows and columns below a; and in row and
--- column a as far as face c. Column c is that of the mirror of c: it is filled with row c, by the mirrored joins.
-pub record Filled (w : ℕ → ℕ → ℕ) (m : ℕ) (table : List ℕ) (a c : ℕ) : Type 0 where
-  pub as-long : length table ≡ 65536
-  pub rows : (x y : ℕ) → x < m → y < m → x < a → inTable table x y ≡ w x y
-  pub columns : (x y : ℕ) → x < m → y < m → mirror y < a → inTable table x y ≡ w x y
-  pub row : (y : ℕ) → y < m → a < m → mirror y < c → inTable table a y ≡ w a y
-  pub column : (x y : ℕ) → x < m → y < m → mirror y ≡ a → x < c → inTable table x y ≡ w x y
 
 -- Any order of faces of the first n parts, and what its ribbon is.
 module _ (run starts sizes : List ℕ) (n : ℕ) where

@@ -3,21 +3,21 @@ ghost use mathlib.Core.Path.{_≡_};
 ghost use Prim.Native.Nat.{_≤_};
 ghost use lib.ListN.{length};
 ghost use Rattle.lists.specs.Refusals.{whole};
-ghost use Rattle.joins.specs.Tables.{OrdersInto};
-ghost use Rattle.layout.specs.Parts.{InRun, InOrder, partsOf, partShared};
+ghost use Rattle.layout.specs.Parts.{InRun, InOrder, partsOf};
 ghost use Rattle.layout.specs.Answers.{Gives, answerOf, orderOutcome, keptOutcome, LaysRibbon};
 ghost use Rattle.layout.specs.Answers as a;
 
 mod cuts; // codes as parts of the run
 mod contained; // codes that another holds
-mod overlaps; // the overlaps of all faces
+mod sorting; // faces in the order of their bands
+mod following; // the face that comes after a face
+mod pass; // the joining, and the order of faces
 mod writing; // the ribbon of an order
 
 use contained::keep;
 use cuts::cut;
-use joins::Ordering;
 use lists::Refusal;
-use overlaps::fill_table;
+use pass::order_faces;
 use writing::measure;
 use writing::write_bands;
 
@@ -35,22 +35,6 @@ fn refused(number: u8) -> Laid
         number: number,
         row: 0,
     })
-}
-
-// The order of faces of n codes that joining gives.
-fn order_codes(
-    bands: &[u8],
-    starts: &[usize],
-    sizes: &[usize],
-    n: usize,
-    order: &mut [usize],
-) -> Ordering
-    requires { ⌜ InRun (now bands) (now starts) (now sizes) n × (256 ≤ length (now order)) ⌝ }
-    ensures { λ r. ⌜ OrdersInto n (partShared (now (bands .entry)) (now (starts .entry)) (now (sizes .entry)) n) (now (order .entry)) (now (order .exit)) r ⌝ }
-{
-    let mut table = [0u8; 65536];
-    fill_table(bands, starts, sizes, n, &mut table);
-    joins::order_faces(&table, n, order)
 }
 
 // The ribbon of an order of faces, written where it fits.
@@ -84,10 +68,8 @@ fn lay_kept(bands: &[u8], starts: &[usize], sizes: &[usize], n: usize, ribbon: &
     ensures { λ r. ⌜ Gives (keptOutcome (partsOf (now (bands .entry)) (now (starts .entry)) (now (sizes .entry)) n) (now (ribbon .entry))) (now (ribbon .exit)) r ⌝ }
 {
     let mut order = [0usize; 256];
-    match order_codes(bands, starts, sizes, n, &mut order) {
-        Ordering::Stuck => refused(14),
-        Ordering::Faces(count) => lay_order(bands, starts, sizes, n, &order[..count], ribbon),
-    }
+    let count = order_faces(bands, starts, sizes, n, &mut order);
+    lay_order(bands, starts, sizes, n, &order[..count], ribbon)
 }
 
 // Lays out a list of codes, one run of bands and a length for each, into a lent ribbon. It answers with the ribbon's length

@@ -5,14 +5,23 @@ ghost use lib.ListN.{length, drop, getD};
 ghost use lib.Seq.{paste};
 ghost use Rattle.words.specs.Ways.{wayOf};
 ghost use Rattle.lists.specs.Runs.{over};
-ghost use Rattle.layout.specs.Parts.{InOrder, partSkip, partRibbon, Measures};
+ghost use Rattle.layout.specs.Parts.{InOrder, PartThere, faceShared, partSkip, partRibbon, Measures};
 use crate::cuts::part;
-use crate::overlaps::face_overlap;
 
 // A ribbon's length and what it saves.
 pub struct Sums {
     pub bands: usize,
     pub saved: usize,
+}
+
+// The overlap from face a to face b.
+pub fn face_overlap(bands: &[u8], starts: &[usize], sizes: &[usize], a: usize, b: usize) -> usize
+    requires { ⌜ PartThere (now bands) (now starts) (now sizes) (a / 2) × PartThere (now bands) (now starts) (now sizes) (b / 2) ⌝ }
+    ensures { λ r. ⌜ r ≡ faceShared (now (bands .entry)) (now (starts .entry)) (now (sizes .entry)) a b ⌝ }
+{
+    let c = part(bands, starts, sizes, a / 2);
+    let d = part(bands, starts, sizes, b / 2);
+    words::overlap(c, a % 2 == 1, d, b % 2 == 1)
 }
 
 // What face number i of an order shares with the one before it; nothing for the first.

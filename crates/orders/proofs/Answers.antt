@@ -45,11 +45,11 @@ module _ (b : Lent) where
         let f = when t shortBuffer in
         elim (eqb f 0) [ true ↦ outcome (counts r) (putInto r b) | false ↦ outcome (refused (whole f)) b ]
 
-    if-short : Short b r → outcomeFor (orders 0 0 ns cs) b ≡ outcome (refused (whole shortBuffer)) b
+    pub if-short : Short b r → outcomeFor (orders 0 0 ns cs) b ≡ outcome (refused (whole shortBuffer)) b
     unfolding by-test
     if-short h = ap by-test (passes (is-short b r) h)
 
-    if-filled : (Short b r → ⊥) → outcomeFor (orders 0 0 ns cs) b ≡ outcome (counts r) (putInto r b)
+    pub if-filled : (Short b r → ⊥) → outcomeFor (orders 0 0 ns cs) b ≡ outcome (counts r) (putInto r b)
     unfolding by-test
     if-filled h = ap by-test (refuses (is-short b r) h)
 

@@ -31,10 +31,10 @@ has-some [] n = absurd (n refl)
 has-some (x ∷ xs) n = omega arith
 
 module _ {ns : List (List ℕ)} {n c : List ℕ} (q : (k : ℕ) → EntryFault ns (n ∷ (c ∷ [])) k → ⊥) where
-  name-kept : NameRule n
+  pub name-kept : NameRule n
   name-kept = stable (is-name n) (λ h. q badName (bad-name h))
 
-  code-kept : CodeRule c
+  pub code-kept : CodeRule c
   code-kept = (
     has-some c (λ h. q noBands (no-bands h)),
     not-lt (λ h. q longCode (long-code h)),
@@ -44,7 +44,7 @@ module _ {ns : List (List ℕ)} {n c : List ℕ} (q : (k : ℕ) → EntryFault n
   name-new : In n ns → ⊥
   name-new h = q nameTaken (name-taken h)
 
-  room : length ns < 128
+  pub room : length ns < 128
   room = not-lt (λ h. q listFull (list-full (omega arith)))
 
 -- so the list with it has passed as well

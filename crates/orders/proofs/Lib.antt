@@ -3,6 +3,9 @@
 -- Rows: the scan finds exactly what the grammar derives.
 pub mod Scan
 pub mod Found
+-- The scan in the code: what each byte does, and what holds while a row is read.
+pub mod Taken
+pub mod Scanning
 -- Faults: the tests give the lowest one, and an entry without fault keeps the rules.
 pub mod Table
 pub mod Faults
@@ -17,6 +20,12 @@ pub mod Impostors
 -- What reading hands on, to the caller and to the later calls.
 pub mod Answers
 pub mod HandsOn
+-- The call that reads: words filed in runs, rows checked and gathered, the outcome handed over; and what it means.
+pub mod Filing
+pub mod Checking
+pub mod Gathering
+pub mod HandingOver
+pub mod Calls
 -- Fields as they are written, and ribbon files.
 pub mod Quoting
 pub mod RibbonFile

@@ -1,1 +1,60 @@
-// Order lists: what document 01 asks of a file, and the reader that gives it. So far the rules and their proofs.
+// Order lists as RFC 4180 files.
+ghost use Rattle.orders.specs.Answers.{lent};
+ghost use Rattle.orders.specs.Calls.{ReadsOrders};
+
+mod rows; // the scan of one row
+mod checks; // the faults of one row
+mod collect; // all rows of a file
+mod handover; // the lent buffers filled
+
+use collect::gather;
+use handover::hand_over;
+use lists::Refusal;
+
+// What reading an order list answers: refused; or how many codes there are, how many bands in them, and how many bytes
+// of names.
+pub enum Read {
+    Refused(Refusal),
+    Orders { codes: u32, bands: u32, names: u32 },
+}
+
+// Reads an order list into four lent buffers: for the codes their run and a length each, for the names their run and a
+// length each. A refused call changes no lent byte.
+pub fn read_orders(
+    file: &[u8],
+    bands: &mut [u8],
+    lengths: &mut [u16],
+    names: &mut [u8],
+    sizes: &mut [u16],
+) -> Read
+    ensures { λ r. ⌜ ReadsOrders (now (file .entry)) (lent (now (bands .entry)) (now (lengths .entry)) (now (names .entry)) (now (sizes .entry))) (lent (now (bands .exit)) (now (lengths .exit)) (now (names .exit)) (now (sizes .exit))) r ⌝ }
+{
+    if 16384 < file.len() {
+        return Read::Refused(Refusal { number: 1, row: 0 });
+    }
+    if file.len() == 0 {
+        return Read::Refused(Refusal { number: 4, row: 0 });
+    }
+    let mut code_run = [0u8; 16384];
+    let mut code_lengths = [0u16; 128];
+    let mut name_run = [0u8; 16384];
+    let mut name_lengths = [0u16; 128];
+    let all = gather(
+        file,
+        &mut code_run,
+        &mut code_lengths,
+        &mut name_run,
+        &mut name_lengths,
+    );
+    hand_over(
+        all,
+        &code_run,
+        &code_lengths,
+        &name_run,
+        &name_lengths,
+        bands,
+        lengths,
+        names,
+        sizes,
+    )
+}

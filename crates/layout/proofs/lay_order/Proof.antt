@@ -3,11 +3,6 @@ use borrow.Author.Needs.{needs}
 use native.Mathlib.Omega.{arith}
 use Rattle.layout.proofs.lay_order.Statement.{statement}
 use Rattle.layout.proofs.lay_order.Tie as tie
-use Rattle.layout.proofs.lay_order.Reads as reads
-use Rattle.layout.proofs.lay_order.Lts as lts
-use Rattle.layout.proofs.refused.Reads as refused-reads
-use Rattle.layout.proofs.writing.measure.Reads as measure-reads
-use Rattle.layout.proofs.writing.write_bands.Reads as write-bands-reads
 
 -- src/lib.rt:51:9
 measure-requires : tie.Need-measure-requires

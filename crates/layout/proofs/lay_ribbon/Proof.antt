@@ -11,13 +11,6 @@ use borrow.Author.Needs.{needs}
 use native.Mathlib.Omega.{arith}
 use Rattle.layout.proofs.lay_ribbon.Statement.{statement}
 use Rattle.layout.proofs.lay_ribbon.Tie as tie
-use Rattle.layout.proofs.lay_ribbon.Reads as reads
-use Rattle.layout.proofs.lay_ribbon.Lts as lts
-use Rattle.layout.proofs.contained.keep.Reads as keep-reads
-use Rattle.layout.proofs.cuts.cut.Reads as cut-reads
-use Rattle.layout.proofs.lay_kept.Reads as lay-kept-reads
-use Rattle.layout.proofs.refused.Reads as refused-reads
-use Rattle.lists.proofs.list_ok.Reads as list-ok-reads
 
 -- src/lib.rt:79:9
 list-ok-requires : tie.Need-list-ok-requires

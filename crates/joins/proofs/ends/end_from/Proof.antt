@@ -1,12 +1,11 @@
+-- `ends::end_from` walks to the end of a piece. The invariant: from where the walk stands, with the steps left, the
+-- definition comes to the end that it comes to from f.
 use mathlib.Core.Path.{refl}
-use Rattle.joins.proofs.Walks.{Walk, walk-stops, walk-ends, walk-goes}
-use Prim.Native.Nat.{_≤_, _<_, _*_}
-use borrow.Author.Needs.{needs}
 use native.Mathlib.Omega.{arith}
+use borrow.Author.Needs.{needs}
+use Rattle.joins.proofs.Walks.{Walk, walk-stops, walk-ends, walk-goes}
 use Rattle.joins.proofs.ends.end_from.Statement.{statement}
 use Rattle.joins.proofs.ends.end_from.Tie as tie
-use Rattle.joins.proofs.ends.end_from.Reads as reads
-use Rattle.joins.proofs.ends.end_from.Lts as lts
 
 abbrev Inv-loop : tie.InvT-loop
 Inv-loop after n f at₀ left₀ at left = Walk n after f at left
@@ -14,39 +13,30 @@ Inv-loop after n f at₀ left₀ at left = Walk n after f at left
 abbrev μ-loop : tie.MeasureT-loop
 μ-loop after n f at₀ left₀ at left = left
 
--- src/ends.rt:25:20
 mul-left : tie.Need-mul-left Inv-loop μ-loop
 mul-left c = search needs
 
--- src/ends.rt:26:5
 loop-holds : tie.Need-loop-holds Inv-loop μ-loop
 loop-holds c = record { within = search needs; steps = search needs; same = λ js h. refl }
 
--- src/ends.rt:27:20
 mul-next : tie.Need-mul-next Inv-loop μ-loop
 mul-next c = search needs
 
--- src/ends.rt:27:20
 shared-slice-read-next : tie.Need-shared-slice-read-next Inv-loop μ-loop
 shared-slice-read-next c = search needs
 
--- src/ends.rt:29:13
 returns : tie.Need-returns Inv-loop μ-loop
 returns c = walk-stops (c .before .before .before .loop .inv) (c .if1 .taken)
 
--- src/ends.rt:31:14
 sub-at : tie.Need-sub-at Inv-loop μ-loop
 sub-at c = omega (arith, c .if1 .left)
 
--- src/ends.rt:32:9
 sub-left : tie.Need-sub-left Inv-loop μ-loop
 sub-left c = search needs
 
--- src/ends.rt:26:5
 loop-less : tie.Need-loop-less Inv-loop μ-loop
 loop-less c = search needs
 
--- src/ends.rt:26:5
 loop-again : tie.Need-loop-again Inv-loop μ-loop
 loop-again c =
     walk-goes
@@ -55,7 +45,6 @@ loop-again c =
     (c .before .before .loop-test .taken)
     (c .if1 .left)
 
--- src/ends.rt:20:1
 returns-2 : tie.Need-returns-2 Inv-loop μ-loop
 returns-2 c = walk-ends (c .before .loop .inv) (c .loop-test .left)
 

@@ -3,11 +3,6 @@ use borrow.Author.Needs.{needs}
 use native.Mathlib.Omega.{arith}
 use Rattle.layout.proofs.contained.held_by.Statement.{statement}
 use Rattle.layout.proofs.contained.held_by.Tie as tie
-use Rattle.layout.proofs.contained.held_by.Reads as reads
-use Rattle.layout.proofs.contained.held_by.Lts as lts
-use Rattle.layout.proofs.contained.outranks_by.Reads as outranks-by-reads
-use Rattle.layout.proofs.cuts.part.Reads as part-reads
-use Rattle.words.proofs.stands.Reads as stands-reads
 
 -- src/contained.rt:28:9
 part-requires : tie.Need-part-requires

@@ -9,9 +9,6 @@ use Rattle.layout.specs.Dropping.{someBelow}
 use Rattle.layout.specs.Parts.{partHeld}
 use Rattle.layout.proofs.contained.is_dropped.Statement.{statement}
 use Rattle.layout.proofs.contained.is_dropped.Tie as tie
-use Rattle.layout.proofs.contained.is_dropped.Reads as reads
-use Rattle.layout.proofs.contained.is_dropped.Lts as lts
-use Rattle.layout.proofs.contained.held_by.Reads as held-by-reads
 
 abbrev Inv-loop : tie.InvT-loop
 Inv-loop bands starts sizes n i j₀ j = (j ≤ n) × (someBelow j (partHeld bands starts sizes n i) ≡ false)

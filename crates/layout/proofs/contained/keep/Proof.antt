@@ -7,9 +7,6 @@ use lib.ListN.{length}
 use Rattle.layout.specs.Parts.{Sieved}
 use Rattle.layout.proofs.contained.keep.Statement.{statement}
 use Rattle.layout.proofs.contained.keep.Tie as tie
-use Rattle.layout.proofs.contained.keep.Reads as reads
-use Rattle.layout.proofs.contained.keep.Lts as lts
-use Rattle.layout.proofs.contained.keep_next.Reads as keep-next-reads
 
 abbrev Inv-loop : tie.InvT-loop
 Inv-loop bands starts sizes n kstarts₀ ksizes₀ kept₀ i₀ kstarts ksizes kept i = (length kstarts ≡ length kstarts₀) × (length ksizes ≡ length ksizes₀) × Sieved bands starts sizes n kstarts ksizes kept i

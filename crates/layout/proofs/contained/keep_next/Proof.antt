@@ -4,9 +4,6 @@ use borrow.Author.Needs.{needs}
 use native.Mathlib.Omega.{arith}
 use Rattle.layout.proofs.contained.keep_next.Statement.{statement}
 use Rattle.layout.proofs.contained.keep_next.Tie as tie
-use Rattle.layout.proofs.contained.keep_next.Reads as reads
-use Rattle.layout.proofs.contained.keep_next.Lts as lts
-use Rattle.layout.proofs.contained.is_dropped.Reads as is-dropped-reads
 
 -- src/contained.rt:56:8
 is-dropped-requires : tie.Need-is-dropped-requires

@@ -3,8 +3,6 @@ use native.Mathlib.Omega.{arith}
 use borrow.Author.Tests.{lt-ltb, le-ltb, eq-eqb, ne-eqb}
 use Rattle.layout.proofs.contained.outranks_by.Statement.{statement}
 use Rattle.layout.proofs.contained.outranks_by.Tie as tie
-use Rattle.layout.proofs.contained.outranks_by.Reads as reads
-use Rattle.layout.proofs.contained.outranks_by.Lts as lts
 
 -- src/contained.rt:18:9
 returns : tie.Need-returns

@@ -5,9 +5,6 @@ use lib.ListN.{length}
 use Rattle.layout.proofs.Cutting.{Cutting, cut-next, cut-end, total-part}
 use Rattle.layout.proofs.cuts.cut.Statement.{statement}
 use Rattle.layout.proofs.cuts.cut.Tie as tie
-use Rattle.layout.proofs.cuts.cut.Reads as reads
-use Rattle.layout.proofs.cuts.cut.Lts as lts
-use Rattle.layout.proofs.cuts.wide.Reads as wide-reads
 
 abbrev Inv-loop : tie.InvT-loop
 Inv-loop lengths starts₀ sizes₀ at₀ i₀ starts sizes at i = Cutting lengths starts₀ starts sizes₀ sizes at i

@@ -4,8 +4,6 @@ use borrow.Author.Needs.{needs}
 use native.Mathlib.Omega.{arith}
 use Rattle.layout.proofs.cuts.part.Statement.{statement}
 use Rattle.layout.proofs.cuts.part.Tie as tie
-use Rattle.layout.proofs.cuts.part.Reads as reads
-use Rattle.layout.proofs.cuts.part.Lts as lts
 
 -- src/cuts.rt:35:16
 mul-from : tie.Need-mul-from

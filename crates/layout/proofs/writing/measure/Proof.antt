@@ -8,10 +8,6 @@ use lib.ListN.{length, take}
 use Rattle.layout.specs.Parts.{partRibbon, partSaved}
 use Rattle.layout.proofs.writing.measure.Statement.{statement}
 use Rattle.layout.proofs.writing.measure.Tie as tie
-use Rattle.layout.proofs.writing.measure.Reads as reads
-use Rattle.layout.proofs.writing.measure.Lts as lts
-use Rattle.layout.proofs.writing.size_at.Reads as size-at-reads
-use Rattle.layout.proofs.writing.skip_at.Reads as skip-at-reads
 
 abbrev Inv-loop : tie.InvT-loop
 Inv-loop bands starts sizes n order long₀ saved₀ i₀ long saved i = (i ≤ length order) × (long ≡ length (partRibbon bands starts sizes n (take i order))) × (saved ≡ partSaved bands starts sizes n (take i order)) × (long ≤ 64 * i) × (saved ≤ 64 * i)

@@ -3,9 +3,6 @@ use borrow.Author.Needs.{needs}
 use native.Mathlib.Omega.{arith}
 use Rattle.layout.proofs.writing.skip_at.Statement.{statement}
 use Rattle.layout.proofs.writing.skip_at.Tie as tie
-use Rattle.layout.proofs.writing.skip_at.Reads as reads
-use Rattle.layout.proofs.writing.skip_at.Lts as lts
-use Rattle.layout.proofs.overlaps.face_overlap.Reads as face-overlap-reads
 
 -- src/writing.rt:25:9
 returns : tie.Need-returns

@@ -9,11 +9,6 @@ use Rattle.lists.specs.Runs.{over}
 use Rattle.layout.specs.Parts.{partRibbon}
 use Rattle.layout.proofs.writing.write_bands.Statement.{statement}
 use Rattle.layout.proofs.writing.write_bands.Tie as tie
-use Rattle.layout.proofs.writing.write_bands.Reads as reads
-use Rattle.layout.proofs.writing.write_bands.Lts as lts
-use Rattle.layout.proofs.cuts.part.Reads as part-reads
-use Rattle.layout.proofs.writing.skip_at.Reads as skip-at-reads
-use Rattle.layout.proofs.writing.write_way.Reads as write-way-reads
 
 abbrev Inv-loop : tie.InvT-loop
 Inv-loop bands starts sizes n order ribbon₀ at₀ i₀ ribbon at i = (i ≤ length order) × (length ribbon ≡ length ribbon₀) × (at ≡ length (partRibbon bands starts sizes n (take i order))) × (ribbon ≡ over (partRibbon bands starts sizes n (take i order)) ribbon₀)

@@ -11,9 +11,6 @@ use lib.Seq.{paste, paste-zero}
 use Rattle.words.specs.Ways.{wayOf}
 use Rattle.layout.proofs.writing.write_way.Statement.{statement}
 use Rattle.layout.proofs.writing.write_way.Tie as tie
-use Rattle.layout.proofs.writing.write_way.Reads as reads
-use Rattle.layout.proofs.writing.write_way.Lts as lts
-use Rattle.words.proofs.band_at.Reads as band-at-reads
 
 abbrev Inv-loop : tie.InvT-loop
 Inv-loop c way o ribbon₀ at j₀ ribbon j = (j ≤ length c - o) × (length ribbon ≡ length ribbon₀) × (ribbon ≡ paste ribbon₀ at (drop o (wayOf way c)) j)

@@ -1,0 +1,110 @@
+-- From what was gathered to the outcome: refused, or a buffer too short, or the words written into the lent buffers.
+use mathlib.Core.Path.{_≡_, refl, sym, ap, _∙_}
+use mathlib.Core.Logic.{_⊎_, inl, inr, _≢_}
+use mathlib.Core.List.{List}
+use Prim.Native.Nat.{ℕ, zero, suc, _≤_, _<_}
+use native.Mathlib.Omega.{arith}
+use lib.Dec.{eqb·suc-zero}
+use borrow.Author.Tests.{lt-ltb, le-ltb, eq-eqb}
+use lib.ListN.{length, take, length-map}
+use Rattle.lists.specs.Refusals.{refusal, longFile, wrongHeading}
+use Rattle.lists.specs.Runs.{flat, lengths, over}
+use Rattle.lists.specs.Outcome.{outcome}
+use Rattle.orders.specs.Files.{Orders, orders, bad}
+use Rattle.orders.specs.Orders.{readOrders}
+use Rattle.orders.specs.Gathering.{Gathers}
+use Rattle.orders.specs.Answers.{Lent, lent, resultOf, refused, Short, outcomeFor, readOutcome}
+use Rattle.orders.specs.Calls.{Gives}
+use Rattle.orders.specs.declared.collect.Gathered.{Gathered}
+use Rattle.orders.specs.declared.Read.the-variants as answers
+use Rattle.orders.proofs.Answers.{if-short, if-filled}
+use Rattle.orders.proofs.Filing.{filed-size, filed-count}
+
+refused-as : (b : Lent) (n l : ℕ) (ns cs : List (List ℕ)) → n ≢ 0
+    → outcomeFor (orders n l ns cs) b ≡ outcome (refused (refusal n l)) b
+refused-as b zero l ns cs h = absurd (h refl)
+refused-as b (suc n) l ns cs h = cc (eqb·suc-zero n)
+
+module _ {x : Orders} {bands ls names sizes : List ℕ} {all : Gathered} (g : Gathers x bands ls names sizes all)
+    (b : Lent) where
+  pub gives-refused : all .number ≢ 0
+      → Gives (outcomeFor x b) b (answers.Refused (record { number = all .number; row = all .row }))
+  gives-refused h =
+      let e : outcomeFor x b ≡ outcome (refused (refusal (x .number) (x .line))) b =
+      refused-as b (x .number) (x .line) (x .names) (x .codes) (λ z. h (g .number ∙ z)) in
+      record {
+        answer = cc (ap (λ o. o .answer) e, g .number, g .row);
+        after = sym (ap (λ o. o .after) e);
+      }
+
+  module _ (z : all .number ≡ 0) where
+    abbrev r : Lent
+    r = resultOf (x .names) (x .codes)
+
+    accepted : x ≡ orders 0 0 (x .names) (x .codes)
+    accepted =
+        ap (λ n. orders n (x .line) (x .names) (x .codes)) (sym (g .number) ∙ z)
+        ∙ ap (λ l. orders 0 l (x .names) (x .codes)) (sym (g .row) ∙ g .whole z)
+
+    -- 13's condition in numbers
+    abbrev Lacks : Type 0
+    Lacks =
+        (length (b .code-run) < all .bands)
+        ⊎ ((length (b .code-lengths) < all .codes)
+        ⊎ ((length (b .name-run) < all .names) ⊎ (length (b .name-lengths) < all .codes)))
+
+    code-bands : length (flat (x .codes)) ≡ all .bands
+    code-bands = filed-size (g .codes-filed)
+
+    code-count : length (lengths (x .codes)) ≡ all .codes
+    code-count = length-map (x .codes) length ∙ filed-count (g .codes-filed)
+
+    name-bytes : length (flat (x .names)) ≡ all .names
+    name-bytes = filed-size (g .names-filed)
+
+    name-count : length (lengths (x .names)) ≡ all .codes
+    name-count = length-map (x .names) length ∙ filed-count (g .names-filed)
+
+    lacks-short : Lacks → Short b r
+    lacks-short h = rw (code-bands, code-count, name-bytes, name-count) h
+
+    short-lacks : Short b r → Lacks
+    short-lacks h = rw (code-bands, code-count, name-bytes, name-count) at h
+
+    pub gives-short : Lacks → Gives (outcomeFor x b) b (answers.Refused (record { number = 13; row = 0 }))
+    gives-short h =
+        let e = ap (λ y. outcomeFor y b) accepted ∙ if-short b (x .names) (x .codes) (lacks-short h) in
+        record { answer = sym (ap (λ o. o .answer) e); after = sym (ap (λ o. o .after) e) }
+
+    pub gives-filled : {b1 b2 b3 b4 : List ℕ} → all .bands ≤ length (b .code-run) → all .codes ≤ length (b .code-lengths)
+        → all .names ≤ length (b .name-run) → all .codes ≤ length (b .name-lengths)
+        → b1 ≡ over (take (all .bands) bands) (b .code-run) → b2 ≡ over (take (all .codes) ls) (b .code-lengths)
+        → b3 ≡ over (take (all .names) names) (b .name-run) → b4 ≡ over (take (all .codes) sizes) (b .name-lengths)
+        → Gives (outcomeFor x b) (lent b1 b2 b3 b4) (answers.Orders (all .codes) (all .bands) (all .names))
+    gives-filled h1 h2 h3 h4 e1 e2 e3 e4 =
+        let e = ap (λ y. outcomeFor y b) accepted ∙ if-filled b (x .names) (x .codes) (λ s. enough (short-lacks s)) in
+        let c = g .codes-filed in
+        let n = g .names-filed in
+        record {
+          answer = cc (ap (λ o. o .answer) e, code-bands, code-count, name-bytes);
+          after = cc (ap (λ o. o .after) e, e1, e2, e3, e4, c .run-is, c .lengths-are, n .run-is, n .lengths-are);
+        }
+      where
+        enough : Lacks → ⊥
+        enough (inl h) = omega arith
+        enough (inr (inl h)) = omega arith
+        enough (inr (inr (inl h))) = omega arith
+        enough (inr (inr (inr h))) = omega arith
+
+-- A file of too many bytes, or of none.
+module _ (s : List ℕ) (b : Lent) where
+  pub gives-long : 16384 < length s → Gives (readOutcome s b) b (answers.Refused (record { number = 1; row = 0 }))
+  gives-long h =
+      let e : readOrders s ≡ bad longFile 0 = cc (lt-ltb 16384 (length s) h) in
+      record { answer = sym (ap (λ x. outcomeFor x b .answer) e); after = sym (ap (λ x. outcomeFor x b .after) e) }
+
+  pub gives-empty : length s ≤ 16384 → length s ≡ 0
+      → Gives (readOutcome s b) b (answers.Refused (record { number = 4; row = 0 }))
+  gives-empty h z =
+      let e : readOrders s ≡ bad wrongHeading 0 = cc (le-ltb 16384 (length s) h, eq-eqb (length s) 0 z) in
+      record { answer = sym (ap (λ x. outcomeFor x b .answer) e); after = sym (ap (λ x. outcomeFor x b .after) e) }

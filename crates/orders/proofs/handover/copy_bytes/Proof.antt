@@ -1,0 +1,51 @@
+-- `copy_bytes` meets its contract: after i turns the buffer holds the first i bytes and, past them, what it had.
+use Prim.Native.Nat.{_≤_, _-_}
+use borrow.Author.Needs.{needs}
+use Rattle.orders.proofs.Filing.{Copied, copied-none, copied-more, copied-all}
+use Rattle.orders.proofs.handover.copy_bytes.Statement.{statement}
+use Rattle.orders.proofs.handover.copy_bytes.Tie as tie
+
+abbrev Inv-loop : tie.InvT-loop
+Inv-loop from n to₀ i₀ to i = (i ≤ n) × Copied from to₀ to i
+
+abbrev μ-loop : tie.MeasureT-loop
+μ-loop from n to₀ i₀ to i = n - i
+
+loop-holds : tie.Need-loop-holds Inv-loop μ-loop
+loop-holds c = (search needs, copied-none _ _)
+
+shared-slice-read-to : tie.Need-shared-slice-read-to Inv-loop μ-loop
+shared-slice-read-to c = search needs
+
+slice-write-to : tie.Need-slice-write-to Inv-loop μ-loop
+slice-write-to c = search needs
+
+add-i : tie.Need-add-i Inv-loop μ-loop
+add-i c = search needs
+
+loop-less : tie.Need-loop-less Inv-loop μ-loop
+loop-less c = search needs
+
+loop-again : tie.Need-loop-again Inv-loop μ-loop
+loop-again c = (search needs, copied-more _ _ _ (search needs) (search needs) (c .before .before .loop .inv .1))
+
+same-length : tie.Need-same-length Inv-loop μ-loop
+same-length c = c .before .loop .inv .1 .as-long
+
+returns : tie.Need-returns Inv-loop μ-loop
+returns c = copied-all (c .before .loop .inv .1) (c .before .loop .inv .0) (c .loop-test .left)
+
+pub copy-bytes-spec : {M : Type 1} → statement M
+copy-bytes-spec =
+    tie.close
+    (tie.spec
+    Inv-loop
+    μ-loop
+    loop-holds
+    shared-slice-read-to
+    slice-write-to
+    add-i
+    loop-less
+    loop-again
+    same-length
+    returns)

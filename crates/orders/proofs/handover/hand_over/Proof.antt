@@ -1,0 +1,87 @@
+-- `hand_over` meets its contract: each answer is the outcome's, by the tests that led to it and what the copies leave.
+use mathlib.Core.Logic.{inl, inr}
+use borrow.Author.Needs.{needs}
+use Rattle.orders.proofs.HandingOver.{gives-refused, gives-short, gives-filled}
+use Rattle.orders.proofs.handover.hand_over.Statement.{statement}
+use Rattle.orders.proofs.handover.hand_over.Tie as tie
+
+returns : tie.Need-returns
+returns c = λ x g. gives-refused g _ (c .if1 .taken)
+
+returns-2 : tie.Need-returns-2
+returns-2 c = λ x g. gives-short g _ (c .before .if1 .left) (inl (c .if2 .taken))
+
+returns-3 : tie.Need-returns-3
+returns-3 c = λ x g. gives-short g _ (c .before .before .if1 .left) (inr (inl (c .if3 .taken)))
+
+returns-4 : tie.Need-returns-4
+returns-4 c = λ x g. gives-short g _ (c .before .before .before .if1 .left) (inr (inr (inl (c .if4 .taken))))
+
+returns-5 : tie.Need-returns-5
+returns-5 c = λ x g. gives-short g _ (c .before .before .before .before .if1 .left) (inr (inr (inr (c .if5 .taken))))
+
+copy-bytes-requires : tie.Need-copy-bytes-requires
+copy-bytes-requires c κs = search needs
+
+copy-lengths-requires : tie.Need-copy-lengths-requires
+copy-lengths-requires c κs = search needs
+
+copy-bytes-requires-2 : tie.Need-copy-bytes-requires-2
+copy-bytes-requires-2 c κs = search needs
+
+copy-lengths-requires-2 : tie.Need-copy-lengths-requires-2
+copy-lengths-requires-2 c κs = search needs
+
+cast-t30 : tie.Need-cast-t30
+cast-t30 c = search needs
+
+cast-t31 : tie.Need-cast-t31
+cast-t31 c = search needs
+
+cast-t32 : tie.Need-cast-t32
+cast-t32 c = search needs
+
+same-length : tie.Need-same-length
+same-length c = search needs
+
+same-length-2 : tie.Need-same-length-2
+same-length-2 c = search needs
+
+same-length-3 : tie.Need-same-length-3
+same-length-3 c = search needs
+
+same-length-4 : tie.Need-same-length-4
+same-length-4 c = search needs
+
+returns-6 : tie.Need-returns-6
+returns-6 c = λ x g.
+    let z = c .before .before in
+    let n = z .before .before .before .before in
+    let l = n .before .before .before .before in
+    let b = l .before .before .before .before in
+    let e = b .before .before in
+    gives-filled g _ (e .before .before .before .before .if1 .left) (e .before .before .before .if2 .left) (e .before .before .if3 .left)
+    (e .before .if4 .left) (e .if5 .left) (b .copy-bytes .ensures) (l .copy-lengths .ensures) (n .copy-bytes2 .ensures)
+    (z .copy-lengths2 .ensures)
+
+pub hand-over-spec : {M : Type 1} → statement M
+hand-over-spec =
+    tie.close
+    (tie.spec
+    returns
+    returns-2
+    returns-3
+    returns-4
+    returns-5
+    copy-bytes-requires
+    copy-lengths-requires
+    copy-bytes-requires-2
+    copy-lengths-requires-2
+    cast-t30
+    cast-t31
+    cast-t32
+    same-length
+    same-length-2
+    same-length-3
+    same-length-4
+    returns-6)

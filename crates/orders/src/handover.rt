@@ -1,0 +1,83 @@
+// What was read, copied into the lent buffers where each is long enough.
+ghost use mathlib.Core.Path.{_≡_};
+ghost use Prim.Native.Nat.{_≤_};
+ghost use lib.ListN.{length, take};
+ghost use Rattle.lists.specs.Runs.{over};
+ghost use Rattle.orders.specs.Gathering.{Roomy};
+ghost use Rattle.orders.specs.Answers.{lent};
+ghost use Rattle.orders.specs.Calls.{HandsOver};
+use crate::Read;
+use crate::collect::Gathered;
+use lists::Refusal;
+
+// The answer, with the words that were gathered written into the lent buffers where each is long enough.
+pub fn hand_over(
+    all: Gathered,
+    code_run: &[u8],
+    code_lengths: &[u16],
+    name_run: &[u8],
+    name_lengths: &[u16],
+    bands: &mut [u8],
+    lengths: &mut [u16],
+    names: &mut [u8],
+    sizes: &mut [u16],
+) -> Read
+    requires { ⌜ (all .bands ≤ 16384) × (all .names ≤ 16384) × (all .codes ≤ 128) × Roomy (now «code_run») (now «code_lengths») (now «name_run») (now «name_lengths») ⌝ }
+    ensures { λ r. ⌜ HandsOver all (now («code_run» .entry)) (now («code_lengths» .entry)) (now («name_run» .entry)) (now («name_lengths» .entry)) (lent (now (bands .entry)) (now (lengths .entry)) (now (names .entry)) (now (sizes .entry))) (lent (now (bands .exit)) (now (lengths .exit)) (now (names .exit)) (now (sizes .exit))) r ⌝ }
+{
+    let number = all.number;
+    let codes = all.codes;
+    let band_count = all.bands;
+    let name_count = all.names;
+    if number != 0 {
+        return Read::Refused(Refusal {
+            number,
+            row: all.row,
+        });
+    }
+    if bands.len() < band_count {
+        return Read::Refused(Refusal { number: 13, row: 0 });
+    }
+    if lengths.len() < codes {
+        return Read::Refused(Refusal { number: 13, row: 0 });
+    }
+    if names.len() < name_count {
+        return Read::Refused(Refusal { number: 13, row: 0 });
+    }
+    if sizes.len() < codes {
+        return Read::Refused(Refusal { number: 13, row: 0 });
+    }
+    copy_bytes(code_run, band_count, bands);
+    copy_lengths(code_lengths, codes, lengths);
+    copy_bytes(name_run, name_count, names);
+    copy_lengths(name_lengths, codes, sizes);
+    Read::Orders {
+        codes: codes as u32,
+        bands: band_count as u32,
+        names: name_count as u32,
+    }
+}
+
+// The first n bytes, written at the beginning of a buffer.
+fn copy_bytes(from: &[u8], n: usize, to: &mut [u8])
+    requires { ⌜ (n ≤ length (now from)) × (n ≤ length (now to)) ⌝ }
+    ensures { λ _. ⌜ now (to .exit) ≡ over (take n (now (from .entry))) (now (to .entry)) ⌝ }
+{
+    let mut i = 0;
+    while i < n {
+        to[i] = from[i];
+        i += 1;
+    }
+}
+
+// The same for lengths.
+fn copy_lengths(from: &[u16], n: usize, to: &mut [u16])
+    requires { ⌜ (n ≤ length (now from)) × (n ≤ length (now to)) ⌝ }
+    ensures { λ _. ⌜ now (to .exit) ≡ over (take n (now (from .entry))) (now (to .entry)) ⌝ }
+{
+    let mut i = 0;
+    while i < n {
+        to[i] = from[i];
+        i += 1;
+    }
+}
