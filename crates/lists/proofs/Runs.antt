@@ -1,12 +1,13 @@
 -- A run cut into words and joined again is as before, and words joined into a run and cut again are as before: each by
 -- induction over the words, or over their lengths.
-use mathlib.Core.Path.{_≡_, refl, ap}
+use mathlib.Core.Path.{_≡_, refl, ap, _∙_}
 use mathlib.Core.List.{List, [], _∷_}
-use Prim.Native.Nat.{ℕ, suc}
+use Prim.Native.Nat.{ℕ, suc, _+_}
 use native.Mathlib.Omega.{arith}
 use lib.ListN.{length, drop, length-append, length-drop, take-append-drop}
 use lib.Seq.{length-take-le, take-at, drop-at}
-use Rattle.lists.specs.Runs.{codesIn, total, flat, lengths}
+use Rattle.words.specs.Written.{Written}
+use Rattle.lists.specs.Runs.{codesIn, total, flat, lengths, over}
 
 -- from words to a run and back
 pub cut-again : (cs : List (List ℕ)) → codesIn (flat cs) (lengths cs) ≡ cs
@@ -39,3 +40,8 @@ lengths-again run (n ∷ ns) e =
 -- and only there
 pub adds-up : (run ls : List ℕ) → flat (codesIn run ls) ≡ run → lengths (codesIn run ls) ≡ ls → total ls ≡ length run
 adds-up run ls f l = cc (total-lengths (codesIn run ls))
+
+-- what is written from the beginning of a buffer on
+pub written-over : {buffer xs after : List ℕ} {end : ℕ} → Written buffer 0 xs after end → (end ≡ length xs) × (after ≡ over xs buffer)
+written-over {buffer} {xs} w =
+    let e : 0 + length xs ≡ length xs = omega arith in (w .end-is ∙ e, w .after-is ∙ rw e)

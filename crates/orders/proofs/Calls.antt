@@ -16,7 +16,7 @@ use Rattle.orders.proofs.Only.{reads-only}
 use Rattle.orders.proofs.Answers.{serves-ours}
 use Rattle.orders.proofs.HandsOn.{hands-on}
 
-handed : {s : List ℕ} {ns cs : List (List ℕ)} → Reads s (files.orders 0 0 ns cs) → HandedOn ns cs
+pub handed : {s : List ℕ} {ns cs : List (List ℕ)} → Reads s (files.orders 0 0 ns cs) → HandedOn ns cs
 handed {s} x =
     let e = reads-only x in
     subst (λ (o : files.Orders). HandedOn (o .names) (o .codes)) e (hands-on s (ap (λ o. o .number) e))

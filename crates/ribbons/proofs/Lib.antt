@@ -1,2 +1,4 @@
--- The demands, proved.
+-- The demands, proved; and what the programs write.
 pub mod Demands
+pub mod Refused
+pub mod Outputs

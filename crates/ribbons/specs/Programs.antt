@@ -1,14 +1,16 @@
 -- What the three programs write, as functions of the bytes of their input files. A file that isn't named or can't be
 -- opened counts as one of 0 bytes, so that a program has its bytes in any case.
+use mathlib.Core.Path.{_≡_}
 use mathlib.Core.Bool.{true, false, not}
 use mathlib.Core.List.{List, _∷_, _++_}
-use Prim.Native.Nat.{ℕ, suc}
+use Prim.Native.Nat.{ℕ, suc, _≤_}
 use lib.Dec.{eqb, ltb}
 use lib.IntN.{ℤ, pos, negsuc}
-use lib.ListN.{length}
+use lib.ListN.{length, take}
 use Rattle.words.specs.Texts.{text}
 use Rattle.words.specs.Turn.{turned}
 use Rattle.lists.specs.Refusals.{Refusal, refusal, whole, longRibbon, unknownColour, when, firstOf}
+use Rattle.lists.specs.Runs.{over}
 use Rattle.lists.specs.Fit.{allBands}
 use Rattle.orders.specs.Files.{comma, lineBreak, Orders}
 use Rattle.orders.specs.Orders.{readOrders}
@@ -56,3 +58,9 @@ checkedLine codes row =
 
 abbrev pub checkOutput : List ℕ → List ℕ → List ℕ
 checkOutput list ribbon = ofList (λ x. checkedLine (x .codes) (ribbonOf ribbon)) list
+
+-- A text written at the beginning of a row, with its length; the row behind it is as before. So many bytes are there.
+pub record WritesOver (text before after : List ℕ) (r : ℕ) : Type 0 where
+  pub long : r ≡ length text
+  pub written : after ≡ over text before
+  pub counts : (r ≤ length after) × (r ≡ length (take r after))

@@ -7,6 +7,7 @@ pub mod Standing
 pub mod Overlaps
 pub mod Placing
 pub mod Ways
+pub mod Written
 pub mod Comparing
 pub mod Trying
 pub mod Seeking

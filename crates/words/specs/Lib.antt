@@ -4,6 +4,7 @@ pub mod Tests
 pub mod Decides
 pub mod Turn
 pub mod Ways
+pub mod Written
 pub mod Stand
 pub mod Overlap
 pub mod Place

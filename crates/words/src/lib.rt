@@ -2,9 +2,11 @@
 mod bands;
 mod endings;
 mod starts;
+mod writing;
 
 pub use bands::band_at;
 pub use bands::same;
 pub use endings::overlap;
 pub use starts::stands;
 pub use starts::stands_way;
+pub use writing::put_word;

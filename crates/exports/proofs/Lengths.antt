@@ -1,0 +1,64 @@
+-- A routine's answer that is known to be y has y's length; and the length is 0 for a refusal alone: a list that is laid out
+-- has a code, which has a band and stands on the ribbon.
+use mathlib.Core.Path.{_≡_, sym, ap, subst, _∙_}
+use mathlib.Core.List.{List, [], _∷_}
+use Prim.Native.Nat.{ℕ, _≤_}
+use native.Mathlib.Omega.{arith}
+use lib.ListN.{length}
+use Rattle.words.specs.Lists.{Each}
+use Rattle.words.specs.Turn.{turned}
+use Rattle.words.proofs.Turning.{turning}
+use Rattle.words.proofs.Standing.{way-length}
+use Rattle.words.proofs.Deciding.{holds, passes}
+use Rattle.lists.specs.Outcome.{outcome}
+use Rattle.lists.specs.Refusals.{Refusal}
+use Rattle.lists.specs.Rules.{CodeRule, FalseCodes}
+use Rattle.lists.specs.Runs.{codesIn}
+use Rattle.lists.proofs.Rules.{codes-checked, is-fit-list}
+use Rattle.lists.proofs.Runs.{codes-count}
+use Rattle.layout.specs.Rules.{AllStand}
+use Rattle.layout.specs.Answers.{LayAnswer, refused, laid, LayOutcome, layOutcome, Gives, answerOf, Means}
+use Rattle.layout.specs.Answers.{LaysInto, false-list, no-join, short-buffer, filled}
+use Rattle.layout.specs.declared.Laid.{Laid}
+use Rattle.layout.proofs.Answers.{lays-out-ours, laid-means}
+use Rattle.exports.specs.Lengths.{lengthOf, GivesLength}
+
+some-band : (cs : List (List ℕ)) (ribbon : List ℕ) → 1 ≤ length cs → Each CodeRule cs → AllStand turned cs ribbon
+    → 1 ≤ length ribbon
+some-band [] ribbon some rules stand = absurd (omega arith)
+some-band (c ∷ cs) ribbon some rules stand = omega (arith, rules .0 .0, way-length turning (stand .0))
+
+module _ (run ls before : List ℕ) {bands saved : ℕ} where
+  never : {r : Refusal} → refused r ≡ laid bands saved → ⊥
+  never e = let z : _≡_ {A = ℕ} 0 1 = cc in absurd (omega arith)
+
+  not-false : {o : LayOutcome} → LaysInto run ls before o → o .answer ≡ laid bands saved → FalseCodes run ls → ⊥
+  not-false (false-list f) e = absurd (never e)
+  not-false (no-join fit s) e = fit
+  not-false (short-buffer fit x l) e = fit
+  not-false (filled fit x l) e = fit
+
+  means : layOutcome run ls before .answer ≡ laid bands saved
+      → Means run ls before (layOutcome run ls before .after) bands saved
+  means e =
+      laid-means run ls before _ bands saved
+      (subst (λ (x : LayAnswer). LaysInto run ls before (outcome x (layOutcome run ls before .after))) e
+      (lays-out-ours run ls before))
+
+  some-bands : layOutcome run ls before .answer ≡ laid bands saved → 1 ≤ bands
+  some-bands e =
+      let fit = holds (is-fit-list run ls) (passes (codes-checked run ls) (not-false (lays-out-ours run ls before) e)) in
+      let some : 1 ≤ length (codesIn run ls) = omega (arith, codes-count run ls, fit .some) in
+      omega (arith, means e .is-long, some-band (codesIn run ls) (means e .ribbon) some (fit .coded) (means e .all-stand))
+
+pub gives-length : (run ls before : List ℕ) {after : List ℕ} {x y : Laid} → x ≡ y
+    → Gives (layOutcome run ls before) after x → GivesLength run ls before after (lengthOf (answerOf y))
+gives-length run ls before e g =
+    let a = sym (ap (λ u. lengthOf (answerOf u)) e) ∙ ap lengthOf (g .answer) in
+    record {
+      answer = a;
+      left = g .left;
+      never-laid = λ z bands saved f.
+          let n : bands ≡ 0 = sym (a ∙ ap lengthOf f) ∙ z in
+          absurd (omega (arith, some-bands run ls before f));
+    }

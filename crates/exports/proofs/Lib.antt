@@ -1,0 +1,2 @@
+-- Proofs of the exported calls.
+pub mod Lengths

@@ -1,0 +1,22 @@
+// A whole input, read into a lent buffer.
+ghost use Rattle.io.specs.Counts.{Counts};
+
+// The bytes of an open file, as many as the buffer takes; how many. A file that cannot be read to its end counts as one of
+// 0 bytes, so that no half-read file is taken for a whole one.
+pub fn read_whole(fd: i32, buffer: &mut [u8]) -> usize
+    ensures { λ r. ⌜ Counts r (now (buffer .exit)) ⌝ }
+{
+    let mut done = 0;
+    while done < buffer.len() {
+        let got = libc::read(fd, &mut buffer[done..]);
+        if got < 0 {
+            return 0;
+        }
+        let n = io::count(got, &buffer[done..]);
+        if n == 0 {
+            return done;
+        }
+        done += n;
+    }
+    done
+}
