@@ -16,11 +16,12 @@ use Rattle.lists.specs.Rules.{CodeRule, FalseCodes}
 use Rattle.lists.specs.Runs.{codesIn}
 use Rattle.lists.proofs.Rules.{codes-checked, is-fit-list}
 use Rattle.lists.proofs.Runs.{codes-count}
-use Rattle.layout.specs.Rules.{AllStand}
-use Rattle.layout.specs.Answers.{LayAnswer, refused, laid, LayOutcome, layOutcome, Gives, answerOf, Means}
-use Rattle.layout.specs.Answers.{LaysInto, false-list, no-join, short-buffer, filled}
+use Rattle.greedy.specs.Rules.{AllStand}
+use Rattle.greedy.specs.Answers.{LayAnswer, refused, laid, LayOutcome, layOutcome, Means}
+use Rattle.layout.specs.Calls.{Gives, answerOf}
+use Rattle.greedy.specs.Answers.{LaysInto, false-list, no-join, short-buffer, filled}
 use Rattle.layout.specs.declared.Laid.{Laid}
-use Rattle.layout.proofs.Answers.{lays-out-ours, laid-means}
+use Rattle.greedy.proofs.Answers.{lays-out-ours, laid-means}
 use Rattle.exports.specs.Lengths.{lengthOf, GivesLength}
 
 some-band : (cs : List (List ℕ)) (ribbon : List ℕ) → 1 ≤ length cs → Each CodeRule cs → AllStand turned cs ribbon

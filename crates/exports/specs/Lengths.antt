@@ -2,7 +2,7 @@
 use mathlib.Core.Path.{_≡_}
 use mathlib.Core.List.{List}
 use Prim.Native.Nat.{ℕ}
-use Rattle.layout.specs.Answers.{LayAnswer, refused, laid, layOutcome}
+use Rattle.greedy.specs.Answers.{LayAnswer, refused, laid, layOutcome}
 
 -- the ribbon's length; 0 where refused
 abbrev pub lengthOf : LayAnswer → ℕ

@@ -2,12 +2,12 @@
 use mathlib.Core.Path.{_≡_, refl, ap, subst, _∙_}
 use mathlib.Core.Bool.{Bool, true, _&&_}
 use mathlib.Core.List.{List, [], _∷_}
-use Prim.Native.Nat.{ℕ, zero, suc, _*_, _≤_, _<_}
+use Prim.Native.Nat.{ℕ, zero, suc, _*_, _≤_}
 use native.Mathlib.Omega.{arith}
 use lib.Dec.{eqb}
 use lib.ListN.{length, getD}
 use Rattle.words.proofs.Deciding.{holds, decides-and, is-eq, decide}
-use Rattle.joins.specs.Faces.{mirror, Join}
+use Rattle.joins.specs.Faces.{mirror}
 use Rattle.joins.specs.Rounds.{endFrom, pieceFrom, pieceOf}
 use Rattle.joins.specs.Rows.{Unjoined, EndsAt, Wrote, WrotePiece, WroteOrder}
 

@@ -1,7 +1,7 @@
 -- Our rounds: each finds the join that the rule chooses, none lacks a join, and in the end two mirrored pieces remain.
 use mathlib.Core.Path.{_≡_, refl, sym, subst, _∙_}
 use mathlib.Core.Logic.{inl, inr}
-use mathlib.Core.Bool.{true, false, true≢false}
+use mathlib.Core.Bool.{false, true≢false}
 use mathlib.Core.List.{List, [], _∷_}
 use Prim.Native.Nat.{ℕ, zero, suc, _+_, _-_, _*_, _≤_}
 use native.Mathlib.Omega.{arith}
@@ -9,8 +9,7 @@ use lib.ListN.{length}
 use Rattle.words.proofs.Deciding.{holds, fails, passes, not-lt}
 use Rattle.joins.specs.Faces.{Join, join, joinBoth, headOf, lastOf}
 use Rattle.joins.specs.Rules.{Allowed, Largest, Chosen, Run, start, round, Remains, Joins}
-use Rattle.joins.specs.Rounds.{allowed, Best, none, best, pairs, below, bestJoin}
-use Rattle.joins.specs.Rounds.{Layout, layout, roundsFrom, layoutOf}
+use Rattle.joins.specs.Rounds.{allowed, Best, none, best, pairs, below, bestJoin, Layout, roundsFrom, layoutOf}
 use Rattle.joins.proofs.State.{State}
 use Rattle.joins.proofs.Allowed.{is-allowed, pair-open, pair-left, pair-right}
 use Rattle.joins.proofs.Ruled.{run-map, open-allowed, allowed-open}
@@ -20,15 +19,6 @@ use Rattle.joins.proofs.Ties.{Beats, is-better, comparison}
 
 pub all-largest : {n : ℕ} {w : ℕ → ℕ → ℕ} {js : List Join} → Run (Chosen n w) js → Run (Largest n w) js
 all-largest r = run-map (λ ls a b c. c .largest) r
-
--- one round
-pub round-stuck : (f n : ℕ) (w : ℕ → ℕ → ℕ) (js : List Join) → bestJoin n w js ≡ none
-    → roundsFrom (suc f) n w js ≡ layout true js
-round-stuck f n w js e = rw (e, roundsFrom)
-
-pub round-made : (f n : ℕ) (w : ℕ → ℕ → ℕ) (js : List Join) (j : Join) → bestJoin n w js ≡ best j
-    → roundsFrom (suc f) n w js ≡ roundsFrom f n w (joinBoth (j .left) (j .right) js)
-round-made f n w js j e = rw (e, roundsFrom)
 
 module _ (n : ℕ) (w : ℕ → ℕ → ℕ) where
   -- all joins that are tried
@@ -98,7 +88,8 @@ module _ (n : ℕ) (w : ℕ → ℕ → ℕ) where
           absurd (not-none r (R r .pieces) (R r .state) (omega (arith, R r .count)) h)
       go (best j) q s later =
           let b = subst (Searched (comparison w) (allowed n js) tried) q s in
-          rw (round-made f n w js j q) (later _ (round r (chosen r j b)) (omega arith))
+          let o : roundsFrom (suc f) n w js ≡ roundsFrom f n w (joinBoth (j .left) (j .right) js) = rw (q, roundsFrom) in
+          rw o (later _ (round r (chosen r j b)) (omega arith))
 
 -- no codes: nothing is joined, and nothing is left
 pub layout-ended : (n : ℕ) (w : ℕ → ℕ → ℕ) → Ended n w (layoutOf n w)

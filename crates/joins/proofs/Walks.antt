@@ -5,9 +5,7 @@ use mathlib.Core.Logic.{inl, inr, _≢_}
 use mathlib.Core.List.{List}
 use Prim.Native.Nat.{ℕ, zero, suc, _+_, _-_, _*_, _%_, _≤_, _<_}
 use native.Mathlib.Omega.{arith}
-use lib.ListN.{length, getD, set}
-use lib.Seq.{getD-set-same, getD-set-other}
-use native.Mathlib.Decide.{ℕ-discrete}
+use lib.ListN.{getD}
 use Rattle.joins.specs.Faces.{mirror, Join}
 use Rattle.joins.specs.Rounds.{afterIn, endFrom}
 use Rattle.joins.specs.Rows.{Row, Records, EndsAt}

@@ -1,6 +1,6 @@
 -- What laying out a ribbon promises follows from its outcome alone: the outcome meets the claim on calls, so a refusal is
 -- due by the table, and an answer with saved has demands 2 and 3.
-use mathlib.Core.Path.{_≡_, refl, sym, ap₂, subst, _∙_}
+use mathlib.Core.Path.{sym, ap₂, subst}
 use mathlib.Core.List.{List}
 use Prim.Native.Nat.{ℕ, _+_, _*_, _≤_}
 use lib.ListN.{length}
@@ -8,13 +8,14 @@ use Rattle.words.specs.Turn.{turned}
 use Rattle.words.proofs.Standing.{is-some-way}
 use Rattle.lists.specs.Outcome.{outcome}
 use Rattle.lists.specs.Runs.{codesIn, total, lengths}
-use Rattle.layout.specs.Dropping.{kept}
-use Rattle.layout.specs.Rules.{AllStand}
-use Rattle.layout.specs.Answers.{LayAnswer, LaysInto, layOutcome, answerOf, Gives, AnswerMeans, LaysRibbon}
+use Rattle.greedy.specs.Dropping.{kept}
+use Rattle.greedy.specs.Rules.{AllStand}
+use Rattle.greedy.specs.Answers.{LayAnswer, LaysInto, layOutcome}
+use Rattle.layout.specs.Calls.{answerOf, Gives, AnswerMeans, LaysRibbon}
 use Rattle.layout.specs.declared.Laid.{Laid}
 use Rattle.layout.specs.declared.Laid.the-variants.{Refused, Ribbon}
-use Rattle.layout.proofs.Dropping.{keeper-ours}
-use Rattle.layout.proofs.Answers.{lays-out-ours, laid-means}
+use Rattle.greedy.proofs.Dropping.{keeper-ours}
+use Rattle.greedy.proofs.Answers.{lays-out-ours, laid-means}
 
 module _ (run ls before : List ℕ) {after : List ℕ} where
   -- the outcome of a call, as a whole

@@ -1,22 +1,4 @@
--- Demands 2 and 3 of the rules; read from Laying down.
-pub mod Dropping
-pub mod Keeping
-pub mod Faces
-pub mod Reading
-pub mod Parts
-pub mod Cutting
-pub mod Sieving
+-- Reading an order face by face, the stages put together, and what the call means.
 pub mod Steps
-pub mod Passing
-pub mod Sides
-pub mod Rising
-pub mod Picking
-pub mod Rival
-pub mod Laying
-pub mod Claims
-pub mod Impostors
-pub mod Answers
 pub mod Stages
 pub mod Calls
-pub mod WrongCalls
-pub mod Room

@@ -2,8 +2,8 @@
 -- of the kept codes in the order that joining gives.
 use mathlib.Core.Path.{_≡_, refl, sym, ap, _∙_}
 use mathlib.Core.Bool.{Bool, true, false, not}
-use mathlib.Core.List.{List, [], _∷_, _++_}
-use Prim.Native.Nat.{ℕ, zero, suc, _+_, _*_, _≤_, _<_}
+use mathlib.Core.List.{List, [], _∷_}
+use Prim.Native.Nat.{ℕ, zero, suc, _*_, _≤_, _<_}
 use native.Mathlib.Omega.{arith}
 use lib.Dec.{ltb}
 use lib.ListN.{length, take, drop, getD}
@@ -16,18 +16,20 @@ use Rattle.lists.specs.Runs.{codesIn, over}
 use Rattle.lists.specs.Refusals.{whole, falseList, stuck, shortBuffer}
 use Rattle.lists.specs.Fit.{listOk}
 use Rattle.lists.specs.Outcome.{outcome}
-use Rattle.joins.specs.Rounds.{layoutOf, orderOf}
+use Rattle.joins.specs.Rounds.{orderOf}
 use Rattle.joins.specs.Rows.{Wrote}
 use Rattle.joins.proofs.Rounds.{never-stuck}
 use Rattle.joins.proofs.Order.{order-short, order-within}
-use Rattle.layout.specs.Dropping.{kept}
-use Rattle.layout.specs.Reading.{shared}
-use Rattle.layout.specs.Layout.{ribbonFor, savedBy, isStuck, orderFor}
-use Rattle.layout.specs.Parts.{partsOf, partShared, InRun, InOrder, Measures, partRibbon}
-use Rattle.layout.specs.Answers.{LayOutcome, LayAnswer, Gives, answerOf, orderOutcome, keptOutcome, layOutcome, layFault}
-use Rattle.layout.specs.Answers as a
-use Rattle.layout.proofs.Parts.{parts-length}
-use Rattle.layout.proofs.Answers.{byTests}
+use Rattle.greedy.specs.Dropping.{kept}
+use Rattle.greedy.specs.Reading.{shared}
+use Rattle.greedy.specs.Layout.{ribbonFor, savedBy, isStuck, orderFor}
+use Rattle.faces.specs.Parts.{partsOf, partShared, InRun}
+use Rattle.layout.specs.Ribbons.{InOrder, Measures, partRibbon}
+use Rattle.greedy.specs.Answers.{LayOutcome, layOutcome}
+use Rattle.layout.specs.Calls.{Gives, answerOf, orderOutcome, keptOutcome}
+use Rattle.greedy.specs.Answers as a
+use Rattle.faces.proofs.Parts.{parts-length}
+use Rattle.greedy.proofs.Answers.{byTests}
 use Rattle.layout.specs.declared.Laid.{Laid}
 use Rattle.layout.specs.declared.Laid.the-variants.{Ribbon}
 

@@ -1,12 +1,3 @@
--- Laying out a list of codes: which are kept, in which order of faces, and the ribbon that an order gives.
--- The rules are said for any way of turning; the answers and the starred ribbons are for document 01's, `turned`.
-pub mod Dropping
-pub mod Reading
-pub mod Parts
-pub mod Passing
-pub mod Sorted
-pub mod Rules
-pub mod Layout
-pub mod Laid
-pub mod Answers
-pub mod Starred
+-- The ribbon that an order gives, and what the call that lays out a list promises.
+pub mod Ribbons
+pub mod Calls

@@ -3,21 +3,17 @@ ghost use mathlib.Core.Path.{_≡_};
 ghost use Prim.Native.Nat.{_≤_};
 ghost use lib.ListN.{length};
 ghost use Rattle.lists.specs.Refusals.{whole};
-ghost use Rattle.layout.specs.Parts.{InRun, InOrder, partsOf};
-ghost use Rattle.layout.specs.Answers.{Gives, answerOf, orderOutcome, keptOutcome, LaysRibbon};
-ghost use Rattle.layout.specs.Answers as a;
+ghost use Rattle.faces.specs.Parts.{InRun, partsOf};
+ghost use Rattle.layout.specs.Ribbons.{InOrder};
+ghost use Rattle.greedy.specs.Answers as a;
+ghost use Rattle.layout.specs.Calls.{Gives, answerOf, orderOutcome, keptOutcome, LaysRibbon};
 
-mod cuts; // codes as parts of the run
-mod contained; // codes that another holds
-mod sorting; // faces in the order of their bands
-mod following; // the face that comes after a face
-mod pass; // the joining, and the order of faces
 mod writing; // the ribbon of an order
 
-use contained::keep;
-use cuts::cut;
+use faces::cut;
+use faces::keep;
+use faces::order_faces;
 use lists::Refusal;
-use pass::order_faces;
 use writing::measure;
 use writing::write_bands;
 

@@ -5,16 +5,16 @@ use mathlib.Core.List.{List}
 use Prim.Native.Nat.{ℕ}
 use native.Mathlib.Omega.{arith}
 use Rattle.lists.specs.Refusals.{refusal, whole, shortBuffer}
-use Rattle.orders.specs.Files as files
-use Rattle.orders.specs.Grammar.{Reads}
-use Rattle.orders.specs.HandsOn.{HandedOn}
-use Rattle.orders.specs.Answers.{Lent, ReadOutcome, ReadsInto, file-refused, short-buffer, filled}
+use Rattle.grammar.specs.Files as files
+use Rattle.grammar.specs.Grammar.{Reads}
+use Rattle.grammar.specs.HandsOn.{HandedOn}
+use Rattle.grammar.specs.Answers.{Lent, ReadOutcome, ReadsInto, file-refused, short-buffer, filled}
 use Rattle.orders.specs.Calls.{answerOf, ReadsAs, in-file, in-buffers, Means, ReadsOrders}
 use Rattle.orders.specs.declared.Read.{Read}
 use Rattle.orders.specs.declared.Read.the-variants.{Refused, Orders}
-use Rattle.orders.proofs.Only.{reads-only}
-use Rattle.orders.proofs.Answers.{serves-ours}
-use Rattle.orders.proofs.HandsOn.{hands-on}
+use Rattle.grammar.proofs.Only.{reads-only}
+use Rattle.grammar.proofs.Answers.{serves-ours}
+use Rattle.grammar.proofs.HandsOn.{hands-on}
 
 pub handed : {s : List ℕ} {ns cs : List (List ℕ)} → Reads s (files.orders 0 0 ns cs) → HandedOn ns cs
 handed {s} x =

@@ -13,9 +13,9 @@ use Rattle.words.specs.Tests.{same}
 use Rattle.lists.specs.Refusals.{brokenRow, wrongWidth, wrongHeading, badName, noBands, longCode, unknownColour}
 use Rattle.lists.specs.Refusals.{nameTaken, listFull, when, firstOf}
 use Rattle.lists.specs.Fit.{isIn, allBands, nameOk}
-use Rattle.orders.specs.Files.{wordName, wordCode}
-use Rattle.orders.specs.Rows.{Row, firstRow}
-use Rattle.orders.specs.Orders.{nameIn, codeIn, headFault, entryFault, rowFault}
+use Rattle.grammar.specs.Files.{wordName, wordCode}
+use Rattle.grammar.specs.Rows.{Row, firstRow}
+use Rattle.grammar.specs.Orders.{nameIn, codeIn, headFault, entryFault, rowFault}
 use Rattle.orders.specs.Scans.{partOf, ReadsRow}
 use Rattle.orders.specs.Gathering.{fieldsFault, ChecksRow}
 use Rattle.orders.specs.declared.rows.RowRead.{RowRead}

@@ -12,7 +12,7 @@ use Rattle.words.specs.Tests.{same}
 use Rattle.lists.specs.Runs.{codesIn, total, flat, over}
 use Rattle.lists.specs.Fit.{isIn}
 use Rattle.lists.proofs.Runs.{cut-again, total-lengths}
-use Rattle.orders.specs.Files.{add}
+use Rattle.grammar.specs.Files.{add}
 use Rattle.orders.specs.Scans.{partOf, KeptTo}
 use Rattle.orders.specs.Gathering.{Filed}
 

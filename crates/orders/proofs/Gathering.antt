@@ -12,14 +12,14 @@ use borrow.Author.Tests.{eq-eqb, ne-eqb, le-ltb}
 use Rattle.words.specs.Tests.{pick}
 use Rattle.lists.specs.Refusals.{emptyList}
 use Rattle.lists.specs.Runs.{codesIn}
-use Rattle.orders.specs.Files.{Orders, orders, bad, add}
-use Rattle.orders.specs.Rows.{firstRow}
-use Rattle.orders.specs.Orders.{headFault, entryFault, nameIn, codeIn, rowFault, rowsFrom, readOrders}
+use Rattle.grammar.specs.Files.{Orders, orders, bad, add}
+use Rattle.grammar.specs.Rows.{firstRow}
+use Rattle.grammar.specs.Orders.{headFault, entryFault, nameIn, codeIn, rowFault, rowsFrom, readOrders}
 use Rattle.orders.specs.Gathering.{ChecksRow, entriesFrom, Roomy, Filed, Gathers, refusedWith}
 use Rattle.orders.specs.declared.checks.Checked.{Checked}
 use Rattle.orders.specs.declared.collect.Gathered.{Gathered}
-use Rattle.orders.proofs.Faults.{of-entry, sound-row}
-use Rattle.orders.proofs.Entries.{name-kept, code-kept, room}
+use Rattle.grammar.proofs.Faults.{of-entry, sound-row}
+use Rattle.grammar.proofs.Entries.{name-kept, code-kept, room}
 use Rattle.orders.proofs.Filing.{filed-none, filed-count, filed-words, filed-add, length-part}
 
 -- The definition, step by step: at the end, at a faulty row, and past an entry.

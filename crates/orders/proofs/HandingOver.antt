@@ -10,14 +10,14 @@ use lib.ListN.{length, take, length-map}
 use Rattle.lists.specs.Refusals.{refusal, longFile, wrongHeading}
 use Rattle.lists.specs.Runs.{flat, lengths, over}
 use Rattle.lists.specs.Outcome.{outcome}
-use Rattle.orders.specs.Files.{Orders, orders, bad}
-use Rattle.orders.specs.Orders.{readOrders}
+use Rattle.grammar.specs.Files.{Orders, orders, bad}
+use Rattle.grammar.specs.Orders.{readOrders}
 use Rattle.orders.specs.Gathering.{Gathers}
-use Rattle.orders.specs.Answers.{Lent, lent, resultOf, refused, Short, outcomeFor, readOutcome}
+use Rattle.grammar.specs.Answers.{Lent, lent, resultOf, refused, Short, outcomeFor, readOutcome}
 use Rattle.orders.specs.Calls.{Gives}
 use Rattle.orders.specs.declared.collect.Gathered.{Gathered}
 use Rattle.orders.specs.declared.Read.the-variants as answers
-use Rattle.orders.proofs.Answers.{if-short, if-filled}
+use Rattle.grammar.proofs.Answers.{if-short, if-filled}
 use Rattle.orders.proofs.Filing.{filed-size, filed-count}
 
 refused-as : (b : Lent) (n l : ℕ) (ns cs : List (List ℕ)) → n ≢ 0

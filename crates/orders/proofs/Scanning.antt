@@ -13,8 +13,8 @@ use lib.ListN.{List·getD-eq-default, drop-of-length-le}
 use lib.Seq.{drop-cons, drop-drop, drop-set-add, getD-at, getD-drop, take-set-le, take-suc-set}
 use Rattle.words.specs.Decides.{Decides, yes, no}
 use Rattle.words.proofs.Deciding.{is-eq, is-lt, stable}
-use Rattle.orders.specs.Files.{lf, add}
-use Rattle.orders.specs.Rows.{Row, row, outside, inside, rowFrom, firstRow}
+use Rattle.grammar.specs.Files.{lf, add}
+use Rattle.grammar.specs.Rows.{Row, row, outside, inside, rowFrom, firstRow}
 use Rattle.orders.specs.Scans.{partOf, KeptTo, RowFound, ReadsRow, rowRead}
 use Rattle.orders.specs.Taken.{modeOf, isClosed, rowAfter, Takes, Appends}
 use Rattle.orders.specs.declared.rows.RowRead.{RowRead}

@@ -10,10 +10,10 @@ use Rattle.words.proofs.Deciding.{passes, refuses, is-eq}
 use Rattle.lists.specs.Fit.{plain}
 use Rattle.lists.specs.Rules.{Printed}
 use Rattle.lists.proofs.Rules.{is-printed}
-use Rattle.orders.specs.Files.{quote, comma, cr, lf}
-use Rattle.orders.specs.Rows.{Outside, at-start, in-text, after-quote, outside, inside, takesText, lineEnd}
+use Rattle.grammar.specs.Files.{quote, comma, cr, lf}
+use Rattle.grammar.specs.Rows.{Outside, at-start, in-text, after-quote, outside, inside, takesText, lineEnd}
 use Rattle.orders.specs.Taken.{Takes}
-use Rattle.orders.proofs.Scan.{is-quotable}
+use Rattle.grammar.proofs.Scan.{is-quotable}
 use Rattle.orders.specs.declared.rows.Mode.the-variants.{Text, AfterQuote, Inside}
 use Rattle.orders.specs.declared.rows.Step.the-variants.{Broken, Comma, Ends, Keep, Skip}
 

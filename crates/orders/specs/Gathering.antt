@@ -6,9 +6,9 @@ use mathlib.Core.List.{List, []}
 use Prim.Native.Nat.{ℕ, suc, _+_, _≤_, _<_}
 use lib.ListN.{length, take, drop}
 use Rattle.lists.specs.Runs.{flat, lengths}
-use Rattle.orders.specs.Files.{Orders}
-use Rattle.orders.specs.Rows.{Row, firstRow}
-use Rattle.orders.specs.Orders.{headFault, entryFault, nameIn, codeIn, rowFault, rowsFrom}
+use Rattle.grammar.specs.Files.{Orders}
+use Rattle.grammar.specs.Rows.{Row, firstRow}
+use Rattle.grammar.specs.Orders.{headFault, entryFault, nameIn, codeIn, rowFault, rowsFrom}
 use Rattle.orders.specs.Scans.{partOf, KeptTo}
 use Rattle.orders.specs.declared.checks.Checked.{Checked}
 use Rattle.orders.specs.declared.collect.Gathered.{Gathered}

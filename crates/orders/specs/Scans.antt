@@ -5,8 +5,8 @@ use mathlib.Core.Bool.{Bool, true}
 use mathlib.Core.List.{List}
 use Prim.Native.Nat.{ℕ, _+_, _≤_, _<_}
 use lib.ListN.{length, take, drop}
-use Rattle.orders.specs.Rows.{Row, firstRow}
-use Rattle.orders.specs.Orders.{nameIn, codeIn}
+use Rattle.grammar.specs.Rows.{Row, firstRow}
+use Rattle.grammar.specs.Orders.{nameIn, codeIn}
 use Rattle.orders.specs.declared.rows.RowRead.{RowRead}
 
 abbrev pub rowRead : Bool → ℕ → ℕ → ℕ → ℕ → RowRead

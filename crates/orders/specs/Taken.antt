@@ -5,9 +5,9 @@ use mathlib.Core.Bool.{Bool, true, false}
 use mathlib.Core.List.{List, [], _∷_}
 use Prim.Native.Nat.{ℕ, _+_}
 use lib.ListN.{getD, drop, set}
-use Rattle.orders.specs.Files.{lf, add}
-use Rattle.orders.specs.Rows.{Row, row, broken, at-start, in-text, after-quote, outside, inside, rowFrom}
-use Rattle.orders.specs.Rows as rows
+use Rattle.grammar.specs.Files.{lf, add}
+use Rattle.grammar.specs.Rows.{Row, row, broken, at-start, in-text, after-quote, outside, inside, rowFrom}
+use Rattle.grammar.specs.Rows as rows
 use Rattle.orders.specs.declared.rows.Mode.{Mode}
 use Rattle.orders.specs.declared.rows.Mode.the-variants.{Start, Text, AfterQuote, Inside}
 use Rattle.orders.specs.declared.rows.Step.{Step}

@@ -4,7 +4,7 @@ ghost use Prim.Native.Nat.{_+_, _-_, _≤_};
 ghost use lib.ListN.{length, take};
 ghost use Rattle.lists.specs.Runs.{codesIn, total};
 ghost use Rattle.lists.specs.Fit.{isIn};
-ghost use Rattle.orders.specs.Orders.{headFault, entryFault};
+ghost use Rattle.grammar.specs.Orders.{headFault, entryFault};
 ghost use Rattle.orders.specs.Scans.{partOf};
 ghost use Rattle.orders.specs.Gathering.{fieldsFault, ChecksRow};
 use crate::rows::read_row;

@@ -2,7 +2,7 @@
 ghost use mathlib.Core.Path.{_≡_};
 ghost use Prim.Native.Nat.{_≤_, _<_};
 ghost use lib.ListN.{length};
-ghost use Rattle.orders.specs.Orders.{readOrders};
+ghost use Rattle.grammar.specs.Orders.{readOrders};
 ghost use Rattle.orders.specs.Gathering.{entriesFrom, Roomy, Gathers, refusedWith};
 use crate::checks::check_row;
 

@@ -4,7 +4,7 @@ ghost use Prim.Native.Nat.{_≤_};
 ghost use lib.ListN.{length, take};
 ghost use Rattle.lists.specs.Runs.{over};
 ghost use Rattle.orders.specs.Gathering.{Roomy};
-ghost use Rattle.orders.specs.Answers.{lent};
+ghost use Rattle.grammar.specs.Answers.{lent};
 ghost use Rattle.orders.specs.Calls.{HandsOver};
 use crate::Read;
 use crate::collect::Gathered;

@@ -1,5 +1,5 @@
 // Order lists as RFC 4180 files.
-ghost use Rattle.orders.specs.Answers.{lent};
+ghost use Rattle.grammar.specs.Answers.{lent};
 ghost use Rattle.orders.specs.Calls.{ReadsOrders};
 
 mod rows; // the scan of one row

@@ -3,8 +3,8 @@ ghost use mathlib.Core.Path.{_≡_};
 ghost use mathlib.Core.Logic.{_≢_};
 ghost use Prim.Native.Nat.{ℕ, _+_, _-_, _≤_, _<_};
 ghost use lib.ListN.{length, getD};
-ghost use Rattle.orders.specs.Files.{quote};
-ghost use Rattle.orders.specs.Rows.{Outside, takesText, outside, inside};
+ghost use Rattle.grammar.specs.Files.{quote};
+ghost use Rattle.grammar.specs.Rows.{Outside, takesText, outside, inside};
 ghost use Rattle.orders.specs.Scans.{ReadsRow, rowRead};
 ghost use Rattle.orders.specs.Taken.{modeOf, isClosed, Takes, Appends};
 

@@ -21,9 +21,9 @@ use Rattle.lists.specs.Runs.{codesIn, over}
 use Rattle.lists.specs.Rules.{Band, FalseCodes}
 use Rattle.lists.specs.Fit.{listOk, allBands}
 use Rattle.lists.proofs.Rules.{is-false-codes, all-bands}
-use Rattle.layout.specs.Layout.{ribbonFor}
-use Rattle.layout.proofs.Claims.{lays-ours, lays-only, each-laid}
-use Rattle.layout.proofs.Laying.{never-stuck-rule}
+use Rattle.greedy.specs.Layout.{ribbonFor}
+use Rattle.greedy.proofs.Claims.{lays-ours, lays-only, each-laid}
+use Rattle.greedy.proofs.Laying.{never-stuck-rule}
 use Rattle.places.specs.Check.{Missing, none-missing, missing, IsMissing, all-held, lowest, missingOn}
 use Rattle.places.specs.Answers.{PlaceRecord, CheckOutcome, refused, missing-code, held, Difference, more, fewer}
 use Rattle.places.specs.Answers.{AreRecords, Fit, ChecksInto, false-list, long-ribbon, no-colour, no-join}

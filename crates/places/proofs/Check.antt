@@ -10,9 +10,9 @@ use Rattle.words.specs.Stand.{StandsSomeWay}
 use Rattle.words.proofs.Lists.{each-in}
 use Rattle.words.proofs.Deciding.{by-cases, not-lt}
 use Rattle.words.proofs.Placing.{found-exactly}
-use Rattle.layout.specs.Dropping.{codeAt}
-use Rattle.layout.specs.Rules.{AllStand}
-use Rattle.layout.proofs.Keeping.{code-in}
+use Rattle.greedy.specs.Dropping.{codeAt}
+use Rattle.greedy.specs.Rules.{AllStand}
+use Rattle.greedy.proofs.Keeping.{code-in}
 use Rattle.places.specs.Check.{Missing, none-missing, missing, IsMissing, all-held, lowest, Misses}
 use Rattle.places.specs.Check.{missingFrom, missingOn}
 

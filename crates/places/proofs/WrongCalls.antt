@@ -16,7 +16,7 @@ use Rattle.lists.specs.Refusals.{whole, longRibbon, unknownColour, shortBuffer}
 use Rattle.lists.specs.Outcome.{outcome}
 use Rattle.lists.specs.Runs.{codesIn, over}
 use Rattle.lists.specs.Fit.{allBands}
-use Rattle.layout.specs.Layout.{ribbonFor}
+use Rattle.greedy.specs.Layout.{ribbonFor}
 use Rattle.places.specs.Answers.{PlaceRecord, CheckOutcome, refused, missing-code, held, Checks, less, recordsFrom}
 use Rattle.places.specs.Answers.{checkOutcome}
 use Rattle.places.proofs.Answers.{checks-only}

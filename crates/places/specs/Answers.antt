@@ -17,8 +17,8 @@ use Rattle.lists.specs.Runs.{codesIn, over}
 use Rattle.lists.specs.Rules.{Band, FalseCodes}
 use Rattle.lists.specs.Fit.{allBands, listOk}
 use Rattle.joins.specs.Rules.{Chosen}
-use Rattle.layout.specs.Rules.{Lays, Stuck, AllStand}
-use Rattle.layout.specs.Layout.{ribbonFor, isStuck}
+use Rattle.greedy.specs.Rules.{Lays, Stuck, AllStand}
+use Rattle.greedy.specs.Layout.{ribbonFor, isStuck}
 use Rattle.places.specs.Check.{none-missing, missing, missingOn, IsMissing}
 
 -- refused, missing the code of a number, or held with the difference

@@ -5,8 +5,8 @@ use Prim.Native.Nat.{ℕ, suc, _<_}
 use lib.ListN.{length}
 use Rattle.words.specs.Stand.{StandsSomeWay}
 use Rattle.words.specs.Place.{placeOf, found}
-use Rattle.layout.specs.Dropping.{codeAt}
-use Rattle.layout.specs.Rules.{AllStand}
+use Rattle.greedy.specs.Dropping.{codeAt}
+use Rattle.greedy.specs.Rules.{AllStand}
 
 -- all codes have a place, or this is the lowest number of one that has none
 pub data Missing : Type 0 where

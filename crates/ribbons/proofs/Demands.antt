@@ -9,18 +9,18 @@ use Rattle.words.proofs.Placing.{finds-ours, finds-only}
 use Rattle.lists.specs.Outcome.{outcome}
 use Rattle.lists.specs.Runs.{codesIn}
 use Rattle.lists.proofs.Rules.{codes-checked, codes-only, names-checked, names-only}
-use Rattle.orders.proofs.Exactly.{meets-ours, meets-only}
-use Rattle.orders.proofs.Answers.{serves-ours, serves-only}
-use Rattle.orders.proofs.HandsOn.{hands-on}
-use Rattle.orders.proofs.Quoting.{writes-ours, writes-only}
-use Rattle.orders.proofs.RibbonFile.{takes-ours, takes-only}
+use Rattle.grammar.proofs.Exactly.{meets-ours, meets-only}
+use Rattle.grammar.proofs.Answers.{serves-ours, serves-only}
+use Rattle.grammar.proofs.HandsOn.{hands-on}
+use Rattle.grammar.proofs.Quoting.{writes-ours, writes-only}
+use Rattle.grammar.proofs.RibbonFile.{takes-ours, takes-only}
 use Rattle.joins.proofs.Claims.{joiner-ours, joiner-only}
-use Rattle.layout.specs.Answers.{laid, LaysInto, layOutcome}
-use Rattle.layout.proofs.Dropping.{keeper-ours, keeper-only}
-use Rattle.layout.proofs.Laying.{lays-twice, never-stuck-rule}
-use Rattle.layout.proofs.Claims.{lays-ours, lays-only, each-laid, starred-lay}
-use Rattle.layout.proofs.Answers.{lays-out-ours, lays-out-only, laid-means}
-use Rattle.layout.proofs.Room.{ribbon-at-most, accepts}
+use Rattle.greedy.specs.Answers.{laid, LaysInto, layOutcome}
+use Rattle.greedy.proofs.Dropping.{keeper-ours, keeper-only}
+use Rattle.greedy.proofs.Laying.{lays-twice, never-stuck-rule}
+use Rattle.greedy.proofs.Claims.{lays-ours, lays-only, each-laid, starred-lay}
+use Rattle.greedy.proofs.Answers.{lays-out-ours, lays-out-only, laid-means}
+use Rattle.greedy.proofs.Room.{ribbon-at-most, accepts}
 use Rattle.sheets.proofs.Answers.{sheets-ours, sheets-only}
 use Rattle.sheets.proofs.Room.{accepts as sheet-accepts}
 use Rattle.sheets.proofs.ReadBack.{reads-back}

@@ -5,7 +5,7 @@ use mathlib.Core.Path.{_≡_, sym, ap, subst, _∙_}
 use mathlib.Core.Logic.{inl, inr}
 use mathlib.Core.Bool.{true, false}
 use mathlib.Core.List.{List, [], _∷_, _++_, append-assoc}
-use Prim.Native.Nat.{ℕ, _+_, _*_, _≤_, _<_}
+use Prim.Native.Nat.{ℕ, _+_, _*_, _≤_}
 use native.Mathlib.Omega.{arith}
 use native.Mathlib.Nat.{mul-suc}
 use lib.Dec.{eqb}
@@ -24,24 +24,23 @@ use Rattle.lists.specs.Rules.{CodeRule, NameRule, FitList, FitNames}
 use Rattle.lists.specs.Fit.{listOk}
 use Rattle.lists.proofs.Runs.{total-lengths}
 use Rattle.lists.proofs.Rules.{is-fit-list, is-fit-names}
-use Rattle.orders.specs.Files.{lineBreak}
-use Rattle.orders.specs.Files as files
-use Rattle.orders.specs.Grammar.{Reads}
-use Rattle.orders.specs.Orders.{readOrders}
-use Rattle.orders.specs.Answers.{Lent, lent, Short, resultOf}
-use Rattle.orders.specs.HandsOn.{HandedOn}
+use Rattle.grammar.specs.Files.{lineBreak}
+use Rattle.grammar.specs.Files as files
+use Rattle.grammar.specs.Grammar.{Reads}
+use Rattle.grammar.specs.Answers.{Lent, Short, resultOf}
+use Rattle.grammar.specs.HandsOn.{HandedOn}
 use Rattle.orders.specs.Calls.{Accepts, Refuses, in-file, in-buffers, Means, ReadsOrders}
 use Rattle.orders.specs.declared.Read.{Read}
 use Rattle.orders.specs.declared.Read.the-variants.{Refused, Orders}
-use Rattle.orders.proofs.Only.{reads-only}
+use Rattle.grammar.proofs.Only.{reads-only}
 use Rattle.orders.proofs.Calls.{handed}
-use Rattle.layout.specs.Layout.{ribbonFor}
-use Rattle.layout.specs.Answers.{LaysRibbon}
+use Rattle.greedy.specs.Layout.{ribbonFor}
+use Rattle.layout.specs.Calls.{LaysRibbon}
 use Rattle.layout.specs.declared.Laid.{Laid}
 use Rattle.layout.specs.declared.Laid.the-variants as laid
 use Rattle.lists.specs.declared.Refusal as declared
-use Rattle.layout.proofs.Claims.{lays-only}
-use Rattle.layout.proofs.Room.{ribbon-at-most, accepts}
+use Rattle.greedy.proofs.Claims.{lays-only}
+use Rattle.greedy.proofs.Room.{ribbon-at-most, accepts}
 use Rattle.ribbons.specs.Programs.{refusedLine, ribbonOutput, WritesOver}
 
 pub writes-over : {text before after : List ℕ} {r : ℕ} → r ≡ length text → after ≡ over text before

@@ -10,7 +10,7 @@ use Rattle.words.proofs.Written.{both-written}
 use Rattle.lists.specs.Refusals.{refusal}
 use Rattle.lists.specs.Runs.{over}
 use Rattle.lists.proofs.Runs.{written-over}
-use Rattle.orders.specs.Files.{comma, lineBreak}
+use Rattle.grammar.specs.Files.{comma, lineBreak}
 use Rattle.sheets.specs.Decimal.{decimal}
 use Rattle.ribbons.specs.Programs.{refusedLine}
 

@@ -13,21 +13,21 @@ use Rattle.words.specs.Place.{Place, Finds, placeOf}
 use Rattle.lists.specs.Runs.{codesIn, total, lengths}
 use Rattle.lists.specs.Rules.{Band, Printed, ChecksCodes, ChecksNames}
 use Rattle.lists.specs.Fit.{listOk, namesOk}
-use Rattle.orders.specs.Files.{Orders}
-use Rattle.orders.specs.Grammar.{Meets}
-use Rattle.orders.specs.Orders.{readOrders}
-use Rattle.orders.specs.Answers.{Lent, ReadOutcome, Serves, readOutcome}
-use Rattle.orders.specs.HandsOn.{Hands-on}
-use Rattle.orders.specs.Quoting.{Writes, fieldText}
-use Rattle.orders.specs.RibbonFile.{Takes, ribbonOf}
+use Rattle.grammar.specs.Files.{Orders}
+use Rattle.grammar.specs.Grammar.{Meets}
+use Rattle.grammar.specs.Orders.{readOrders}
+use Rattle.grammar.specs.Answers.{Lent, ReadOutcome, Serves, readOutcome}
+use Rattle.grammar.specs.HandsOn.{Hands-on}
+use Rattle.grammar.specs.Quoting.{Writes, fieldText}
+use Rattle.grammar.specs.RibbonFile.{Takes, ribbonOf}
 use Rattle.joins.specs.Faces.{Join}
 use Rattle.joins.specs.Rules.{Chosen, Largest, Joiner}
 use Rattle.joins.specs.Rounds.{layoutOf}
-use Rattle.layout.specs.Dropping.{Keeper, kept}
-use Rattle.layout.specs.Rules.{Lays, Stuck, AllStand, AtMostTwice}
-use Rattle.layout.specs.Layout.{ribbonFor, savedBy}
-use Rattle.layout.specs.Answers.{LayOutcome, laid, LaysOut, layOutcome}
-use Rattle.layout.specs.Starred.{Starred}
+use Rattle.greedy.specs.Dropping.{Keeper, kept}
+use Rattle.greedy.specs.Rules.{Lays, Stuck, AllStand, AtMostTwice}
+use Rattle.greedy.specs.Layout.{ribbonFor, savedBy}
+use Rattle.greedy.specs.Answers.{LayOutcome, laid, LaysOut, layOutcome}
+use Rattle.greedy.specs.Starred.{Starred}
 use Rattle.sheets.specs.Sheet.{SheetFor}
 use Rattle.sheets.specs.Answers.{SheetOutcome, written, Sheets, sheetFor, sheetOutcome}
 use Rattle.sheets.specs.ReadBack.{ReadsBack}

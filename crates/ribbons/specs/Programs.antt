@@ -12,10 +12,10 @@ use Rattle.words.specs.Turn.{turned}
 use Rattle.lists.specs.Refusals.{Refusal, refusal, whole, longRibbon, unknownColour, when, firstOf}
 use Rattle.lists.specs.Runs.{over}
 use Rattle.lists.specs.Fit.{allBands}
-use Rattle.orders.specs.Files.{comma, lineBreak, Orders}
-use Rattle.orders.specs.Orders.{readOrders}
-use Rattle.orders.specs.RibbonFile.{ribbonOf}
-use Rattle.layout.specs.Layout.{ribbonFor}
+use Rattle.grammar.specs.Files.{comma, lineBreak, Orders}
+use Rattle.grammar.specs.Orders.{readOrders}
+use Rattle.grammar.specs.RibbonFile.{ribbonOf}
+use Rattle.greedy.specs.Layout.{ribbonFor}
 use Rattle.places.specs.Check.{Missing, none-missing, missing, missingOn}
 use Rattle.places.specs.Answers.{less}
 use Rattle.sheets.specs.Decimal.{decimal}

@@ -20,9 +20,9 @@ use Rattle.lists.specs.Runs.{codesIn, over}
 use Rattle.lists.specs.Rules.{Printed, NameRule, FitNames}
 use Rattle.lists.specs.Fit.{listOk, namesOk}
 use Rattle.lists.proofs.Rules.{is-false-codes, is-false-names, names-checked, is-fit-names}
-use Rattle.layout.specs.Layout.{ribbonFor, savedBy}
-use Rattle.layout.proofs.Laying.{never-stuck-rule}
-use Rattle.layout.proofs.Claims.{lays-ours, lays-only, each-laid}
+use Rattle.greedy.specs.Layout.{ribbonFor, savedBy}
+use Rattle.greedy.proofs.Laying.{never-stuck-rule}
+use Rattle.greedy.proofs.Claims.{lays-ours, lays-only, each-laid}
 use Rattle.lists.proofs.Runs.{codes-count}
 use Rattle.sheets.specs.Sheet.{SheetFor}
 use Rattle.sheets.specs.Answers.{SheetOutcome, refused, written, FalseList, Sheeted, SheetsInto, false-list}

@@ -9,7 +9,7 @@ use Rattle.words.specs.Tests.{same}
 use Rattle.words.specs.Turn.{turned}
 use Rattle.words.specs.Texts.{text}
 use Rattle.words.proofs.Tests.{same-eq}
-use Rattle.layout.specs.Layout.{ribbonFor}
+use Rattle.greedy.specs.Layout.{ribbonFor}
 use Rattle.sheets.specs.Sheet.{SheetFor, sheetText}
 use Rattle.sheets.proofs.Sheet.{sheet-ours}
 

@@ -15,10 +15,10 @@ use Rattle.lists.specs.Refusals.{whole, falseList, stuck, shortBuffer, when, fi
 use Rattle.lists.specs.Outcome.{outcome}
 use Rattle.lists.specs.Runs.{codesIn, flat, lengths, over}
 use Rattle.lists.specs.Fit.{isIn, listOk, namesOk}
-use Rattle.orders.specs.Quoting.{fieldText}
-use Rattle.orders.proofs.Quoting.{undoubled}
-use Rattle.layout.specs.Dropping.{kept}
-use Rattle.layout.specs.Layout.{ribbonFor, savedBy, isStuck}
+use Rattle.grammar.specs.Quoting.{fieldText}
+use Rattle.grammar.proofs.Quoting.{undoubled}
+use Rattle.greedy.specs.Dropping.{kept}
+use Rattle.greedy.specs.Layout.{ribbonFor, savedBy, isStuck}
 use Rattle.sheets.specs.Decimal.{decimal}
 use Rattle.sheets.specs.Sheet.{rowText, sheetHeading, bandsAt, placeFields, codeRows, sheetText}
 use Rattle.sheets.specs.Answers.{SheetAnswer, SheetOutcome, refused, written, Sheets, sheetFor, sheetOutcome}

@@ -8,10 +8,10 @@ use Rattle.words.specs.Lists.{Each}
 use Rattle.words.proofs.Lists.{each-append, each-map}
 use Rattle.words.proofs.Turning.{turned-each}
 use Rattle.lists.specs.Rules.{Band, Printed}
-use Rattle.orders.specs.Files.{comma, lineBreak}
-use Rattle.orders.specs.Grammar.{Text, Field, unquoted, one, more, line, RowAt}
-use Rattle.orders.proofs.Scan.{scan-row}
-use Rattle.orders.proofs.Quoting.{written-field}
+use Rattle.grammar.specs.Files.{comma, lineBreak}
+use Rattle.grammar.specs.Grammar.{Text, Field, unquoted, one, more, line, RowAt}
+use Rattle.grammar.proofs.Scan.{scan-row}
+use Rattle.grammar.proofs.Quoting.{written-field}
 use Rattle.sheets.specs.Decimal.{Digits, one-digit, one-more}
 use Rattle.sheets.specs.Sheet.{PlaceFor, as-given, as-turned, row-for, RowsFor, none, next, SheetFor}
 use Rattle.sheets.specs.Sheet.{heading-first}

@@ -17,13 +17,13 @@ use Rattle.lists.specs.Runs.{codesIn}
 use Rattle.lists.specs.Rules.{CodeRule, NameRule}
 use Rattle.lists.specs.Fit.{listOk, namesOk}
 use Rattle.lists.proofs.Rules.{is-fit-list, is-fit-names}
-use Rattle.orders.specs.Files.{quote}
-use Rattle.orders.specs.Grammar.{Inside, nothing, byte, doubled}
-use Rattle.orders.specs.Quoting.{Written, as-it-is, in-quotes}
-use Rattle.layout.specs.Layout.{savedBy}
-use Rattle.layout.proofs.Claims.{each-laid}
+use Rattle.grammar.specs.Files.{quote}
+use Rattle.grammar.specs.Grammar.{Inside, nothing, byte, doubled}
+use Rattle.grammar.specs.Quoting.{Written, as-it-is, in-quotes}
+use Rattle.greedy.specs.Layout.{savedBy}
+use Rattle.greedy.proofs.Claims.{each-laid}
 use Rattle.lists.proofs.Runs.{codes-count}
-use Rattle.layout.proofs.Room.{ribbon-at-most}
+use Rattle.greedy.proofs.Room.{ribbon-at-most}
 use Rattle.sheets.specs.Decimal.{Digits, one-digit, one-more}
 use Rattle.sheets.specs.Sheet.{PlaceFor, as-given, as-turned, RowFor, row-for, RowsFor, none, next, SheetFor}
 use Rattle.sheets.specs.Sheet.{heading-first}

@@ -15,11 +15,11 @@ use Rattle.words.proofs.Turning.{turning}
 use Rattle.words.proofs.Deciding.{passes}
 use Rattle.words.proofs.Placing.{finds-ours, place-one, found-exactly}
 use Rattle.lists.specs.Rules.{Printed}
-use Rattle.orders.specs.Quoting.{fieldText}
-use Rattle.orders.proofs.Quoting.{writes-ours, written-only}
-use Rattle.layout.specs.Rules.{AllStand}
-use Rattle.layout.specs.Layout.{ribbonFor}
-use Rattle.layout.proofs.Claims.{each-laid}
+use Rattle.grammar.specs.Quoting.{fieldText}
+use Rattle.grammar.proofs.Quoting.{writes-ours, written-only}
+use Rattle.greedy.specs.Rules.{AllStand}
+use Rattle.greedy.specs.Layout.{ribbonFor}
+use Rattle.greedy.proofs.Claims.{each-laid}
 use Rattle.sheets.specs.Sheet.{as-given, as-turned, RowFor, row-for, RowsFor, none, next, SheetFor, heading-first}
 use Rattle.sheets.specs.Sheet.{rowText, sheetHeading, bandsAt, placeFields, codeRow, codeRows, sheetText}
 use Rattle.sheets.proofs.Decimal.{digits-ours, digits-one}

@@ -12,8 +12,8 @@ use Rattle.lists.specs.Runs.{codesIn, over}
 use Rattle.lists.specs.Rules.{FalseCodes, FalseNames}
 use Rattle.lists.specs.Fit.{listOk, namesOk}
 use Rattle.joins.specs.Rules.{Chosen}
-use Rattle.layout.specs.Rules.{Lays, Stuck}
-use Rattle.layout.specs.Layout.{savedBy, isStuck}
+use Rattle.greedy.specs.Rules.{Lays, Stuck}
+use Rattle.greedy.specs.Layout.{savedBy, isStuck}
 use Rattle.sheets.specs.Sheet.{SheetFor, sheetText}
 
 -- refused; or written with the sheet's length and what the ribbon saves

@@ -3,7 +3,7 @@ use mathlib.Core.Path.{_≡_}
 use mathlib.Core.Bool.{true}
 use mathlib.Core.List.{List, [], _∷_}
 use Prim.Native.Nat.{ℕ}
-use Rattle.orders.specs.Rows.{row, firstRow}
+use Rattle.grammar.specs.Rows.{row, firstRow}
 use Rattle.sheets.specs.Sheet.{PlaceFor, sheetHeading}
 
 -- read to its end, a text gives these rows

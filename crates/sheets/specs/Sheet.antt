@@ -6,9 +6,9 @@ use lib.ListN.{length, take, drop}
 use Rattle.words.specs.Texts.{text}
 use Rattle.words.specs.Turn.{turned}
 use Rattle.words.specs.Place.{Place, given-at, turned-at, nowhere, IsPlace, placeOf}
-use Rattle.orders.specs.Files.{comma, lineBreak}
-use Rattle.orders.specs.Quoting.{Written, fieldText}
-use Rattle.layout.specs.Layout.{ribbonFor}
+use Rattle.grammar.specs.Files.{comma, lineBreak}
+use Rattle.grammar.specs.Quoting.{Written, fieldText}
+use Rattle.greedy.specs.Layout.{ribbonFor}
 use Rattle.sheets.specs.Decimal.{Digits, decimal}
 
 -- The claim. Way, start and bands of a code by its place: its bands as they stand on the ribbon are its own, or turned.

@@ -6,45 +6,34 @@ use borrow.Author.Needs.{needs}
 use native.Mathlib.Omega.{arith}
 use Rattle.layout.proofs.lay_kept.Statement.{statement}
 use Rattle.layout.proofs.lay_kept.Tie as tie
-use Rattle.layout.proofs.lay_kept.Reads as reads
-use Rattle.layout.proofs.lay_kept.Lts as lts
-use Rattle.layout.proofs.lay_order.Reads as lay-order-reads
-use Rattle.layout.proofs.pass.order_faces.Reads as order-faces-reads
 
--- src/lib.rt:57:54
 slice-aggregate-order-faces : tie.Need-slice-aggregate-order-faces
 slice-aggregate-order-faces c = search needs
 
--- src/lib.rt:57:9
 order-faces-requires : tie.Need-order-faces-requires
 order-faces-requires c κs = search needs
 
--- src/lib.rt:58:40
 array-share-prefix-order : tie.Need-array-share-prefix-order
 array-share-prefix-order c =
     let k = c .before .before .before .before .before .before .before in
     let a = k .args in
     omega (arith, counted (a .bands .now) (a .starts .now) (a .sizes .now) (a .n) (c .before .order-faces .ensures) (k .pre .few))
 
--- src/lib.rt:58:40
 slice-aggregate-lay-order : tie.Need-slice-aggregate-lay-order
 slice-aggregate-lay-order c =
     let k = c .before .before .before .before .before .before .before .before in
     let a = k .args in
     sym (length-take-le _ _ (omega (arith, counted (a .bands .now) (a .starts .now) (a .sizes .now) (a .n) (c .before .before .order-faces .ensures) (k .pre .few))))
 
--- src/lib.rt:58:5
 lay-order-requires : tie.Need-lay-order-requires
 lay-order-requires c κs =
     let k = c .before .before .before .before .before .before .before .before .before in
     let a = k .args in
     in-order (a .bands .now) (a .starts .now) (a .sizes .now) (a .n) (c .before .before .before .order-faces .ensures) (k .pre)
 
--- src/lib.rt:52:1
 same-length : tie.Need-same-length
 same-length c = search needs
 
--- src/lib.rt:52:1
 returns : tie.Need-returns
 returns c =
     let a = c .before .before .before .before .before .before .before .before .before .before .before .before .args in

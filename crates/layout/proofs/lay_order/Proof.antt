@@ -1,38 +1,29 @@
 use Rattle.layout.proofs.Stages.{gives-short, gives-ribbon}
 use borrow.Author.Needs.{needs}
-use native.Mathlib.Omega.{arith}
 use Rattle.layout.proofs.lay_order.Statement.{statement}
 use Rattle.layout.proofs.lay_order.Tie as tie
 
--- src/lib.rt:51:9
 measure-requires : tie.Need-measure-requires
 measure-requires c κs = search needs
 
--- src/lib.rt:55:9
 refused-requires : tie.Need-refused-requires
 refused-requires c κs = search needs
 
--- src/lib.rt:55:9
 returns : tie.Need-returns
 returns c = gives-short (c .before .before .measure .ensures) _ (c .before .if1 .taken) (c .refused .ensures)
 
--- src/lib.rt:57:5
 write-bands-requires : tie.Need-write-bands-requires
 write-bands-requires c κs = search needs
 
--- src/lib.rt:58:27
 cast-t15 : tie.Need-cast-t15
 cast-t15 c = search needs
 
--- src/lib.rt:58:47
 cast-t16 : tie.Need-cast-t16
 cast-t16 c = search needs
 
--- src/lib.rt:47:1
 same-length : tie.Need-same-length
 same-length c = search needs
 
--- src/lib.rt:47:1
 returns-2 : tie.Need-returns-2
 returns-2 c = gives-ribbon (c .before .before .before .before .before .measure .ensures) _ (c .before .before .before .before .if1 .left) (c .before .before .write-bands .ensures)
 

@@ -1,8 +1,8 @@
 -- `read_orders` meets its contract: too many bytes or none, else what was gathered is handed over.
 use native.Mathlib.Omega.{arith}
 use borrow.Author.Needs.{needs}
-use Rattle.orders.specs.Orders.{readOrders}
-use Rattle.orders.specs.Answers.{lent}
+use Rattle.grammar.specs.Orders.{readOrders}
+use Rattle.grammar.specs.Answers.{lent}
 use Rattle.orders.proofs.Calls.{reads-orders}
 use Rattle.orders.proofs.HandingOver.{gives-long, gives-empty}
 use Rattle.orders.proofs.read_orders.Statement.{statement}

@@ -3,38 +3,30 @@
 use Rattle.joins.proofs.Following.{order-none, order-written}
 use Rattle.joins.proofs.Walks.{mirror-of-end}
 use borrow.Author.Needs.{needs}
-use native.Mathlib.Omega.{arith}
 use Rattle.joins.proofs.reading.write_order.Statement.{statement}
 use Rattle.joins.proofs.reading.write_order.Tie as tie
 
--- src/reading.rt:34:9
 returns : tie.Need-returns
 returns c = order-none (c .if1 .taken)
 
--- src/reading.rt:36:35
 mirror-of-requires : tie.Need-mirror-of-requires
 mirror-of-requires c κs = search needs
 
--- src/reading.rt:36:9
 end-from-requires : tie.Need-end-from-requires
 end-from-requires c κs = search needs
 
--- src/reading.rt:37:27
 mirror-of-requires-2 : tie.Need-mirror-of-requires-2
 mirror-of-requires-2 c κs = search needs
 
--- src/reading.rt:37:5
 write-piece-requires : tie.Need-write-piece-requires
 write-piece-requires c κs =
     let m = c .before in
     let p = m .before .before .before .before .before .before .pre in
     (p .0, mirror-of-end (m .before .end-from .ensures) (m .mirror-of2 .ensures .0), p .1)
 
--- src/reading.rt:29:1
 same-length : tie.Need-same-length
 same-length c = search needs
 
--- src/reading.rt:29:1
 returns-2 : tie.Need-returns-2
 returns-2 c =
     let m = c .before .before .before .before in

@@ -5,7 +5,7 @@ use native.Mathlib.Omega.{arith}
 use mathlib.Core.Path.{_≡_}
 use Prim.Native.Nat.{_*_, _-_, _≤_}
 use lib.ListN.{length, take}
-use Rattle.layout.specs.Parts.{partRibbon, partSaved}
+use Rattle.layout.specs.Ribbons.{partRibbon, partSaved}
 use Rattle.layout.proofs.writing.measure.Statement.{statement}
 use Rattle.layout.proofs.writing.measure.Tie as tie
 
@@ -15,22 +15,18 @@ Inv-loop bands starts sizes n order long₀ saved₀ i₀ long saved i = (i ≤ 
 abbrev μ-loop : tie.MeasureT-loop
 μ-loop bands starts sizes n order long₀ saved₀ i₀ long saved i = length order - i
 
--- src/writing.rt:47:5
 loop-holds : tie.Need-loop-holds Inv-loop μ-loop
 loop-holds c = search needs
 
--- src/writing.rt:48:13
 skip-at-requires : tie.Need-skip-at-requires Inv-loop μ-loop
 skip-at-requires c κs = search needs
 
--- src/writing.rt:49:17
 size-at-requires : tie.Need-size-at-requires Inv-loop μ-loop
 size-at-requires c κs =
     let k = c .before .before .before .before .before .before .before in
     let h = c .before .loop-test .taken in
     (h, face-at (k .pre) h .1)
 
--- src/writing.rt:49:17
 sub-long : tie.Need-sub-long Inv-loop μ-loop
 sub-long c =
     let k = c .before .before .before .before .before .before .before .before in
@@ -39,7 +35,6 @@ sub-long c =
     let s = c .size-at .ensures in
     omega (arith, skip-size (k .pre) h)
 
--- src/writing.rt:49:9
 add-long : tie.Need-add-long Inv-loop μ-loop
 add-long c =
     let k = c .before .before .before .before .before .before .before .before in
@@ -48,7 +43,6 @@ add-long c =
     let s = c .size-at .ensures in
     omega (arith, size-small (k .pre) h, k .pre .few)
 
--- src/writing.rt:50:9
 add-saved : tie.Need-add-saved Inv-loop μ-loop
 add-saved c =
     let k = c .before .before .before .before .before .before .before .before in
@@ -57,15 +51,12 @@ add-saved c =
     let s = c .size-at .ensures in
     omega (arith, size-small (k .pre) h, skip-size (k .pre) h, k .pre .few)
 
--- src/writing.rt:51:9
 add-i : tie.Need-add-i Inv-loop μ-loop
 add-i c = search needs
 
--- src/writing.rt:47:5
 loop-less : tie.Need-loop-less Inv-loop μ-loop
 loop-less c = search needs
 
--- src/writing.rt:47:5
 loop-again : tie.Need-loop-again Inv-loop μ-loop
 loop-again c =
     let k = c .before .before .before .before .before .before .before .before in
@@ -80,7 +71,6 @@ loop-again c =
       omega (arith, size-small (k .pre) h, skip-size (k .pre) h),
     )
 
--- src/writing.rt:40:1
 returns : tie.Need-returns Inv-loop μ-loop
 returns c =
     let l = c .before .loop in

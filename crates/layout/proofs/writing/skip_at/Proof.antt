@@ -1,40 +1,31 @@
 use Rattle.layout.proofs.Steps.{face-at, skip-next}
 use borrow.Author.Needs.{needs}
-use native.Mathlib.Omega.{arith}
 use Rattle.layout.proofs.writing.skip_at.Statement.{statement}
 use Rattle.layout.proofs.writing.skip_at.Tie as tie
 
--- src/writing.rt:25:9
 returns : tie.Need-returns
 returns c = search needs
 
--- src/writing.rt:27:46
 sub-face-overlap : tie.Need-sub-face-overlap
 sub-face-overlap c = search needs
 
--- src/writing.rt:27:40
 mul-face-overlap : tie.Need-mul-face-overlap
 mul-face-overlap c = search needs
 
--- src/writing.rt:27:40
 shared-slice-read-face-overlap : tie.Need-shared-slice-read-face-overlap
 shared-slice-read-face-overlap c = search needs
 
--- src/writing.rt:27:54
 mul-face-overlap-2 : tie.Need-mul-face-overlap-2
 mul-face-overlap-2 c = search needs
 
--- src/writing.rt:27:54
 shared-slice-read-face-overlap-2 : tie.Need-shared-slice-read-face-overlap-2
 shared-slice-read-face-overlap-2 c = search needs
 
--- src/writing.rt:27:5
 face-overlap-requires : tie.Need-face-overlap-requires
 face-overlap-requires c κs =
     let k = c .before .before .before .before .before .before .before in
     (face-at (k .pre .0) (search needs), face-at (k .pre .0) (k .pre .1))
 
--- src/writing.rt:20:1
 returns-2 : tie.Need-returns-2
 returns-2 c =
     let k = c .before .before .before .before .before .before .before .before in

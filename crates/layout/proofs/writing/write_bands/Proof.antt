@@ -6,7 +6,7 @@ use mathlib.Core.Path.{_≡_}
 use Prim.Native.Nat.{_-_, _≤_}
 use lib.ListN.{length, take}
 use Rattle.lists.specs.Runs.{over}
-use Rattle.layout.specs.Parts.{partRibbon}
+use Rattle.layout.specs.Ribbons.{partRibbon}
 use Rattle.layout.proofs.writing.write_bands.Statement.{statement}
 use Rattle.layout.proofs.writing.write_bands.Tie as tie
 
@@ -16,27 +16,21 @@ Inv-loop bands starts sizes n order ribbon₀ at₀ i₀ ribbon at i = (i ≤ le
 abbrev μ-loop : tie.MeasureT-loop
 μ-loop bands starts sizes n order ribbon₀ at₀ i₀ ribbon at i = length order - i
 
--- src/writing.rt:76:5
 loop-holds : tie.Need-loop-holds Inv-loop μ-loop
 loop-holds c = search needs
 
--- src/writing.rt:77:13
 skip-at-requires : tie.Need-skip-at-requires Inv-loop μ-loop
 skip-at-requires c κs = search needs
 
--- src/writing.rt:78:17
 mul-f : tie.Need-mul-f Inv-loop μ-loop
 mul-f c = search needs
 
--- src/writing.rt:78:17
 shared-slice-read-f : tie.Need-shared-slice-read-f Inv-loop μ-loop
 shared-slice-read-f c = search needs
 
--- src/writing.rt:79:24
 part-requires : tie.Need-part-requires Inv-loop μ-loop
 part-requires c κs = face-at (c .before .before .before .before .before .before .before .before .before .pre .0) (c .before .before .loop-test .taken)
 
--- src/writing.rt:79:9
 write-way-requires : tie.Need-write-way-requires Inv-loop μ-loop
 write-way-requires c κs =
     let k = c .before .before .before .before .before .before .before .before .before .before .before in
@@ -44,15 +38,12 @@ write-way-requires c κs =
     write-fits (k .pre .0) (c .before .before .before .before .loop-test .taken) (c .before .part .ensures) (c .before .before .before .skip-at .ensures) (l .inv .2)
     (omega (arith, l .inv .1, k .pre .1))
 
--- src/writing.rt:80:9
 add-i : tie.Need-add-i Inv-loop μ-loop
 add-i c = search needs
 
--- src/writing.rt:76:5
 loop-less : tie.Need-loop-less Inv-loop μ-loop
 loop-less c = search needs
 
--- src/writing.rt:76:5
 loop-again : tie.Need-loop-again Inv-loop μ-loop
 loop-again c =
     let k = c .before .before .before .before .before .before .before .before .before .before .before .before .before .before in
@@ -66,11 +57,9 @@ loop-again c =
       write-next (k .pre .0) h p s (l .inv .2) (k .args .ribbon .now) (l .inv .3) (c .before .before .write-way .ensures .1),
     )
 
--- src/writing.rt:70:1
 same-length : tie.Need-same-length Inv-loop μ-loop
 same-length c = search needs
 
--- src/writing.rt:70:1
 returns : tie.Need-returns Inv-loop μ-loop
 returns c =
     let l = c .before .loop in

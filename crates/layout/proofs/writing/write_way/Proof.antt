@@ -18,41 +18,32 @@ Inv-loop c way o ribbon₀ at j₀ ribbon j = (j ≤ length c - o) × (length ri
 abbrev μ-loop : tie.MeasureT-loop
 μ-loop c way o ribbon₀ at j₀ ribbon j = length c - o - j
 
--- src/writing.rt:54:5
 loop-holds : tie.Need-loop-holds Inv-loop μ-loop
 loop-holds c =
     let a = c .before .before .args in
     (search needs, search needs, paste-zero (a .ribbon .now) (a .at) (drop (a .o) (wayOf (a .way) (a .c .now))))
 
--- src/writing.rt:54:15
 sub-loop : tie.Need-sub-loop Inv-loop μ-loop
 sub-loop c = search needs
 
--- src/writing.rt:55:49
 add-band-at : tie.Need-add-band-at Inv-loop μ-loop
 add-band-at c = search needs
 
--- src/writing.rt:55:26
 band-at-requires : tie.Need-band-at-requires Inv-loop μ-loop
 band-at-requires c κs = search needs
 
--- src/writing.rt:55:16
 add-ribbon : tie.Need-add-ribbon Inv-loop μ-loop
 add-ribbon c = search needs
 
--- src/writing.rt:55:9
 slice-write-ribbon : tie.Need-slice-write-ribbon Inv-loop μ-loop
 slice-write-ribbon c = search needs
 
--- src/writing.rt:56:9
 add-j : tie.Need-add-j Inv-loop μ-loop
 add-j c = search needs
 
--- src/writing.rt:54:5
 loop-less : tie.Need-loop-less Inv-loop μ-loop
 loop-less c = search needs
 
--- src/writing.rt:54:5
 loop-again : tie.Need-loop-again Inv-loop μ-loop
 loop-again c =
     let a = c .before .before .before .before .before .args in
@@ -63,15 +54,12 @@ loop-again c =
           (omega (arith, way-size (a .way) (a .c .now))),
     )
 
--- src/writing.rt:58:5
 add-result : tie.Need-add-result Inv-loop μ-loop
 add-result c = search needs
 
--- src/writing.rt:49:1
 same-length : tie.Need-same-length Inv-loop μ-loop
 same-length c = search needs
 
--- src/writing.rt:49:1
 returns : tie.Need-returns Inv-loop μ-loop
 returns c =
     let a = c .before .before .before .before .args in

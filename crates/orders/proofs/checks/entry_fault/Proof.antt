@@ -9,7 +9,7 @@ use Rattle.lists.specs.Refusals.{listFull, when}
 use Rattle.lists.specs.Runs.{codesIn}
 use Rattle.lists.specs.Fit.{isIn, allBands, nameOk}
 use Rattle.lists.proofs.Runs.{codes-count}
-use Rattle.orders.specs.Orders.{entryFault}
+use Rattle.grammar.specs.Orders.{entryFault}
 use Rattle.orders.proofs.Checking.{entry-fault-by}
 use Rattle.orders.proofs.checks.entry_fault.Statement.{statement}
 use Rattle.orders.proofs.checks.entry_fault.Tie as tie

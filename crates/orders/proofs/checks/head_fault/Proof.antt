@@ -4,7 +4,7 @@ use mathlib.Core.Bool.{true}
 use borrow.Author.Tests.{not-true, not-false}
 use borrow.Author.Needs.{needs}
 use Rattle.words.specs.Tests.{same}
-use Rattle.orders.specs.Files.{wordName}
+use Rattle.grammar.specs.Files.{wordName}
 use Rattle.orders.proofs.Checking.{head-fault-by}
 use Rattle.orders.proofs.checks.head_fault.Statement.{statement}
 use Rattle.orders.proofs.checks.head_fault.Tie as tie

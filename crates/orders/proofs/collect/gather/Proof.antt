@@ -1,7 +1,7 @@
 -- `gather` meets its contract: row 1 is read and checked, and the entries give the answer from there on.
 use mathlib.Core.Path.{_∙_}
 use borrow.Author.Needs.{needs}
-use Rattle.orders.specs.Orders.{headFault}
+use Rattle.grammar.specs.Orders.{headFault}
 use Rattle.orders.specs.Gathering.{ChecksRow}
 use Rattle.orders.proofs.Gathering.{good-heading, bad-heading, gathers-bad, gathers-same}
 use Rattle.orders.proofs.collect.gather.Statement.{statement}

@@ -8,7 +8,7 @@ use lib.Seq.{length-take-le}
 use borrow.Author.Needs.{needs}
 use Rattle.lists.specs.Runs.{codesIn}
 use Rattle.orders.specs.Gathering.{ChecksRow, entriesFrom, Roomy}
-use Rattle.orders.specs.Orders.{entryFault}
+use Rattle.grammar.specs.Orders.{entryFault}
 use Rattle.orders.proofs.Filing.{filed-total}
 use Rattle.orders.proofs.Gathering.{Going, begins, bad-entry, small, goes-on, no-entries, gathered, gathers-bad}
 use Rattle.orders.proofs.collect.gather_entries.Statement.{statement}

@@ -1,7 +1,7 @@
 -- `orders::rows::take_byte` meets its contract: in each arm the mode is known, and each answer is a case of the scan.
 use mathlib.Core.Path.{refl}
 use borrow.Author.Needs.{needs}
-use Rattle.orders.specs.Rows.{at-start, in-text, after-quote}
+use Rattle.grammar.specs.Rows.{at-start, in-text, after-quote}
 use Rattle.orders.proofs.Taken.{start-quote, text-quote, second-quote}
 use Rattle.orders.proofs.rows.take_byte.Statement.{statement}
 use Rattle.orders.proofs.rows.take_byte.Tie as tie

@@ -1,55 +1,43 @@
 -- `printing::ribbon_line`: a fit list is laid out, and CR LF behind its ribbon makes the line.
 use Rattle.ribbons.proofs.Outputs.{told, never-refused, line-fits, line-written}
 use borrow.Author.Needs.{needs}
-use native.Mathlib.Omega.{arith}
 use Rattle.ribbons.proofs.printing.ribbon_line.Statement.{statement}
 use Rattle.ribbons.proofs.printing.ribbon_line.Tie as tie
 
--- src/printing.rt:23:9
 lay-ribbon-requires : tie.Need-lay-ribbon-requires
 lay-ribbon-requires c κs = search needs
 
--- src/printing.rt:25:23
 enum-known-laid : tie.Need-enum-known-laid
 enum-known-laid c = search needs
 
--- src/printing.rt:25:29
 refused-line-requires : tie.Need-refused-line-requires
 refused-line-requires c κs = search needs
 
--- src/printing.rt:26:31
 enum-known-laid-2 : tie.Need-enum-known-laid-2
 enum-known-laid-2 c = search needs
 
--- src/printing.rt:26:64
 slice-aggregate-put-word : tie.Need-slice-aggregate-put-word
 slice-aggregate-put-word c = search needs
 
--- src/printing.rt:26:78
 cast-put-word : tie.Need-cast-put-word
 cast-put-word c = search needs
 
--- src/printing.rt:26:48
 put-word-requires : tie.Need-put-word-requires
 put-word-requires c κs =
     let k = c .before .before .before .before .before .before .before .before .before .before .before .before in
     line-fits (k .args .bands .now) (k .args .lengths .now) (k .args .out .now) (k .pre .0) (k .pre .1) (told (c .before .before .before .before .before .before .before .lay-ribbon .ensures) (c .before .before .before .laid2 .given .1))
 
--- src/printing.rt:19:1
 same-length : tie.Need-same-length
 same-length c = search needs
 
--- src/printing.rt:19:1
 returns : tie.Need-returns
 returns c =
     let k = c .before .before .before .before .before .before .before .before .before .before .before .before .before .before in
     absurd (never-refused (k .args .bands .now) (k .args .lengths .now) (k .args .out .now) (k .pre .0) (k .pre .1) (told (c .before .before .before .before .before .before .before .before .before .lay-ribbon .ensures) (c .before .before .before .before .before .laid .given .1)))
 
--- src/printing.rt:19:1
 same-length-2 : tie.Need-same-length-2
 same-length-2 c = search needs
 
--- src/printing.rt:19:1
 returns-2 : tie.Need-returns-2
 returns-2 c =
     let k = c .before .before .before .before .before .before .before .before .before .before .before .before .before .before .before in

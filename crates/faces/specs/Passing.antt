@@ -1,0 +1,24 @@
+-- What the pass over the sorted faces takes and gives. Seam between the search for a face and the pass.
+use mathlib.Core.Path.{_≡_}
+use mathlib.Core.Logic.{_≢_}
+use mathlib.Core.List.{List}
+use Prim.Native.Nat.{ℕ, _*_, _≤_, _<_}
+use lib.ListN.{getD}
+use Rattle.words.specs.Overlap.{Shares}
+use Rattle.joins.specs.Faces.{mirror}
+use Rattle.faces.specs.Parts.{faceAt}
+
+-- Face b can come after face a with o bands shared: it begins with a's last o bands, it begins a piece (nothing comes
+-- before it, by `after`), and it is neither the head of a's own piece nor a's mirror.
+pub record Follows (run starts sizes : List ℕ) (n : ℕ) (after : List ℕ) (a o head b : ℕ) : Type 0 where
+  pub within : b < 2 * n
+  pub shares : Shares (faceAt run starts sizes a) (faceAt run starts sizes b) o
+  pub begins : getD after (mirror b) 0 ≡ 0
+  pub unclosed : b ≢ head
+  pub unmirrored : b ≢ mirror a
+
+-- The lowest such face; 2n where there is none.
+pub record LowestFollows (run starts sizes : List ℕ) (n : ℕ) (after : List ℕ) (a o head r : ℕ) : Type 0 where
+  pub bound : r ≤ 2 * n
+  pub follows : r < 2 * n → Follows run starts sizes n after a o head r
+  pub lowest : (b : ℕ) → Follows run starts sizes n after a o head b → r ≤ b
