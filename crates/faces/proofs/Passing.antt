@@ -11,9 +11,9 @@ use Rattle.joins.specs.Faces.{mirror}
 use Rattle.joins.specs.Rows.{Unjoined, EndsAt}
 use Rattle.joins.specs.Pass.{PassedRow, Joinable}
 use Rattle.joins.proofs.Passing.{row-start, row-none, row-made}
-use Rattle.faces.specs.Parts.{faceAt, partShared, InRun}
+use Rattle.parts.specs.Parts.{faceAt, partShared, InRun}
 use Rattle.faces.specs.Passing.{Follows, LowestFollows}
-use Rattle.faces.proofs.Parts.{shared-is, shared-short}
+use Rattle.parts.proofs.Parts.{shared-is, shared-short}
 
 module _ {run starts sizes : List ℕ} {n : ℕ} (in-run : InRun run starts sizes n) where
   -- before any join: no face has more than 64 bands

@@ -7,10 +7,10 @@ use native.Mathlib.Omega.{arith}
 use native.Mathlib.Decide.{ℕ-discrete, decLe}
 use lib.ListN.{length, getD}
 use Rattle.joins.specs.Faces.{mirror}
-use Rattle.faces.specs.Parts.{faceAt, InRun}
+use Rattle.parts.specs.Parts.{faceAt, InRun}
 use Rattle.faces.specs.Passing.{Follows, LowestFollows}
 use Rattle.faces.specs.Sorted.{sideAt, SortedFaces, Narrowed, MayFollow, Lower, LowestAmong}
-use Rattle.faces.proofs.Parts.{face-size}
+use Rattle.parts.proofs.Parts.{face-size}
 use Rattle.faces.proofs.Sides.{shares-side, side-shares}
 
 module _ {Ok : ℕ → Type 0} {b old : ℕ} where

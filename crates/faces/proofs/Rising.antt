@@ -8,9 +8,9 @@ use native.Mathlib.Omega.{arith}
 use native.Mathlib.Decide.{ℕ-discrete, decLe}
 use lib.ListN.{length, getD, set, length-set}
 use lib.Seq.{getD-set-same, getD-set-other}
-use Rattle.faces.specs.Parts.{faceAt, PartThere, InRun}
+use Rattle.parts.specs.Parts.{faceAt, PartThere, InRun}
 use Rattle.faces.specs.Sorted.{NotBefore, ending, SortedBelow, Seeks, sideAt, Narrowed, Inserted}
-use Rattle.faces.proofs.Parts.{part-there}
+use Rattle.parts.proofs.Parts.{part-there}
 use Rattle.faces.proofs.Sides.{side-rises, side-total, ending-whole}
 
 -- bisection

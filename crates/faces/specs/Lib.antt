@@ -1,4 +1,3 @@
--- Codes as parts of one run of bands: cut, kept, sorted by their faces, and joined in one pass.
-pub mod Parts
+-- The faces of parts: sorted by their bands, and joined in one pass.
 pub mod Sorted
 pub mod Passing

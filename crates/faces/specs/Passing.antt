@@ -6,7 +6,7 @@ use Prim.Native.Nat.{ℕ, _*_, _≤_, _<_}
 use lib.ListN.{getD}
 use Rattle.words.specs.Overlap.{Shares}
 use Rattle.joins.specs.Faces.{mirror}
-use Rattle.faces.specs.Parts.{faceAt}
+use Rattle.parts.specs.Parts.{faceAt}
 
 -- Face b can come after face a with o bands shared: it begins with a's last o bands, it begins a piece (nothing comes
 -- before it, by `after`), and it is neither the head of a's own piece nor a's mirror.

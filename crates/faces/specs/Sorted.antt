@@ -7,7 +7,7 @@ use lib.Dec.{ltb}
 use lib.ListN.{length, drop, getD}
 use Rattle.words.specs.Tests.{pick}
 use Rattle.joins.specs.Faces.{mirror}
-use Rattle.faces.specs.Parts.{faceAt, PartThere}
+use Rattle.parts.specs.Parts.{faceAt, PartThere}
 
 -- The words that begin with x stand together in the order. A word is before them (0), one of them (1) or after them (2);
 -- a word that x is longer than and begins with is before them.

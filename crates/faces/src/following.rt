@@ -2,7 +2,7 @@
 ghost use Prim.Native.Nat.{ℕ, _*_, _<_, _≤_};
 ghost use lib.ListN.{length, getD};
 ghost use Rattle.joins.specs.Rows.{Row};
-ghost use Rattle.faces.specs.Parts.{InRun};
+ghost use Rattle.parts.specs.Parts.{InRun};
 ghost use Rattle.faces.specs.Passing.{LowestFollows};
 ghost use Rattle.faces.specs.Sorted.{SortedFaces, MayFollow, Lower, LowestAmong};
 use crate::sorting::first_place;

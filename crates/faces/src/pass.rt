@@ -5,7 +5,7 @@ ghost use lib.ListN.{length};
 ghost use Rattle.joins.specs.Rounds.{orderOf};
 ghost use Rattle.joins.specs.Rows.{Unjoined, Laid, Wrote};
 ghost use Rattle.joins.specs.Pass.{PassedRow};
-ghost use Rattle.faces.specs.Parts.{InRun, partShared};
+ghost use Rattle.parts.specs.Parts.{InRun, partShared};
 ghost use Rattle.faces.specs.Sorted.{SortedFaces};
 use crate::following::lowest_following;
 use crate::sorting::sort_faces;

@@ -3,9 +3,9 @@ ghost use mathlib.Core.Path.{_≡_};
 ghost use Prim.Native.Nat.{_+_, _*_, _/_, _<_, _≤_};
 ghost use lib.ListN.{length, getD};
 ghost use Rattle.words.specs.Ways.{wayOf};
-ghost use Rattle.faces.specs.Parts.{InRun, PartThere, faceAt};
+ghost use Rattle.parts.specs.Parts.{InRun, PartThere, faceAt};
 ghost use Rattle.faces.specs.Sorted.{sideOf, ending, SortedBelow, SortedFaces, Seeks, sideAt, Narrowed, Inserted};
-use crate::cuts::part;
+use parts::part;
 
 // On which side a way of c is of the words that begin with the last o bands of a way of d: 0 before them, 1 one of them,
 // 2 after them.

@@ -23,12 +23,12 @@ use Rattle.joins.proofs.Order.{order-short, order-within}
 use Rattle.greedy.specs.Dropping.{kept}
 use Rattle.greedy.specs.Reading.{shared}
 use Rattle.greedy.specs.Layout.{ribbonFor, savedBy, isStuck, orderFor}
-use Rattle.faces.specs.Parts.{partsOf, partShared, InRun}
+use Rattle.parts.specs.Parts.{partsOf, partShared, InRun}
 use Rattle.layout.specs.Ribbons.{InOrder, Measures, partRibbon}
 use Rattle.greedy.specs.Answers.{LayOutcome, layOutcome}
 use Rattle.layout.specs.Calls.{Gives, answerOf, orderOutcome, keptOutcome}
 use Rattle.greedy.specs.Answers as a
-use Rattle.faces.proofs.Parts.{parts-length}
+use Rattle.parts.proofs.Parts.{parts-length}
 use Rattle.greedy.proofs.Answers.{byTests}
 use Rattle.layout.specs.declared.Laid.{Laid}
 use Rattle.layout.specs.declared.Laid.the-variants.{Ribbon}

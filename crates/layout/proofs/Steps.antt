@@ -15,9 +15,9 @@ use Rattle.words.proofs.Ways.{way-size}
 use Rattle.words.proofs.Overlaps.{overlap-right}
 use Rattle.lists.specs.Runs.{over}
 use Rattle.greedy.specs.Reading.{faceOf, shared, past, readPiece, savedAlong, skipAt}
-use Rattle.faces.specs.Parts.{partAt, partsOf, faceAt, faceShared, partShared, PartThere}
+use Rattle.parts.specs.Parts.{partAt, partsOf, faceAt, faceShared, partShared, PartThere}
 use Rattle.layout.specs.Ribbons.{InOrder, partSkip, partRibbon, partSaved}
-use Rattle.faces.proofs.Parts.{part-there, face-size, face-is, shared-is}
+use Rattle.parts.proofs.Parts.{part-there, face-size, face-is, shared-is}
 
 module _ (turn : List ℕ → List ℕ) (ks : List (List ℕ)) where
   -- what face g adds after face f

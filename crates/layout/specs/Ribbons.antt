@@ -5,7 +5,7 @@ use Prim.Native.Nat.{ℕ, _*_, _≤_, _<_}
 use lib.ListN.{length, getD}
 use Rattle.words.specs.Turn.{turned}
 use Rattle.greedy.specs.Reading.{skipAt, readPiece, savedAlong}
-use Rattle.faces.specs.Parts.{partsOf, InRun}
+use Rattle.parts.specs.Parts.{partsOf, InRun}
 
 module _ (run starts sizes : List ℕ) (n : ℕ) where
   pub record InOrder (p : List ℕ) : Type 0 where

@@ -3,17 +3,17 @@ ghost use mathlib.Core.Path.{_≡_};
 ghost use Prim.Native.Nat.{_≤_};
 ghost use lib.ListN.{length};
 ghost use Rattle.lists.specs.Refusals.{whole};
-ghost use Rattle.faces.specs.Parts.{InRun, partsOf};
+ghost use Rattle.parts.specs.Parts.{InRun, partsOf};
 ghost use Rattle.layout.specs.Ribbons.{InOrder};
 ghost use Rattle.greedy.specs.Answers as a;
 ghost use Rattle.layout.specs.Calls.{Gives, answerOf, orderOutcome, keptOutcome, LaysRibbon};
 
 mod writing; // the ribbon of an order
 
-use faces::cut;
-use faces::keep;
 use faces::order_faces;
 use lists::Refusal;
+use parts::cut;
+use parts::keep;
 use writing::measure;
 use writing::write_bands;
 

@@ -5,9 +5,9 @@ ghost use lib.ListN.{length, drop, getD};
 ghost use lib.Seq.{paste};
 ghost use Rattle.words.specs.Ways.{wayOf};
 ghost use Rattle.lists.specs.Runs.{over};
-ghost use Rattle.faces.specs.Parts.{PartThere, faceShared};
+ghost use Rattle.parts.specs.Parts.{PartThere, faceShared};
 ghost use Rattle.layout.specs.Ribbons.{InOrder, partSkip, partRibbon, Measures};
-use faces::part;
+use parts::part;
 
 // A ribbon's length and what it saves.
 pub struct Sums {

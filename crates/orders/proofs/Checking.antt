@@ -16,9 +16,9 @@ use Rattle.lists.specs.Fit.{isIn, allBands, nameOk}
 use Rattle.grammar.specs.Files.{wordName, wordCode}
 use Rattle.grammar.specs.Rows.{Row, firstRow}
 use Rattle.grammar.specs.Orders.{nameIn, codeIn, headFault, entryFault, rowFault}
-use Rattle.orders.specs.Scans.{partOf, ReadsRow}
+use Rattle.rows.specs.Scans.{partOf, ReadsRow}
 use Rattle.orders.specs.Gathering.{fieldsFault, ChecksRow}
-use Rattle.orders.specs.declared.rows.RowRead.{RowRead}
+use Rattle.rows.specs.declared.scan.RowRead.{RowRead}
 use Rattle.orders.proofs.Filing.{upTo, part-to}
 
 module _ (ofTwo : List ℕ → List ℕ → ℕ) (x : Row) where

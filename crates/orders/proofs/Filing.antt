@@ -13,7 +13,7 @@ use Rattle.lists.specs.Runs.{codesIn, total, flat, over}
 use Rattle.lists.specs.Fit.{isIn}
 use Rattle.lists.proofs.Runs.{cut-again, total-lengths}
 use Rattle.grammar.specs.Files.{add}
-use Rattle.orders.specs.Scans.{partOf, KeptTo}
+use Rattle.rows.specs.Scans.{partOf, KeptTo}
 use Rattle.orders.specs.Gathering.{Filed}
 
 -- Copying, element by element: what the loop keeps after i of them, and one more.

@@ -1,6 +1,3 @@
--- The scan in the code: what each byte does, and what holds while a row is read.
-pub mod Taken
-pub mod Scanning
 -- The call that reads: words filed in runs, rows checked and gathered, the outcome handed over; and what it means.
 pub mod Filing
 pub mod Checking

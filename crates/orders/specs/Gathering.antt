@@ -9,7 +9,7 @@ use Rattle.lists.specs.Runs.{flat, lengths}
 use Rattle.grammar.specs.Files.{Orders}
 use Rattle.grammar.specs.Rows.{Row, firstRow}
 use Rattle.grammar.specs.Orders.{headFault, entryFault, nameIn, codeIn, rowFault, rowsFrom}
-use Rattle.orders.specs.Scans.{partOf, KeptTo}
+use Rattle.rows.specs.Scans.{partOf, KeptTo}
 use Rattle.orders.specs.declared.checks.Checked.{Checked}
 use Rattle.orders.specs.declared.collect.Gathered.{Gathered}
 

@@ -1,5 +1,3 @@
--- What the reading routines' steps give, and what the call that reads an order list promises.
-pub mod Scans
-pub mod Taken
+-- What the steps of reading a file give, and what the call that reads an order list promises.
 pub mod Gathering
 pub mod Calls

@@ -5,9 +5,9 @@ ghost use lib.ListN.{length, take};
 ghost use Rattle.lists.specs.Runs.{codesIn, total};
 ghost use Rattle.lists.specs.Fit.{isIn};
 ghost use Rattle.grammar.specs.Orders.{headFault, entryFault};
-ghost use Rattle.orders.specs.Scans.{partOf};
+ghost use Rattle.rows.specs.Scans.{partOf};
 ghost use Rattle.orders.specs.Gathering.{fieldsFault, ChecksRow};
-use crate::rows::read_row;
+use rows::read_row;
 
 // A row with its fault (0 for none), the lengths of its two fields, and where the next row begins.
 pub struct Checked {

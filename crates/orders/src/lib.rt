@@ -2,7 +2,6 @@
 ghost use Rattle.grammar.specs.Answers.{lent};
 ghost use Rattle.orders.specs.Calls.{ReadsOrders};
 
-mod rows; // the scan of one row
 mod checks; // the faults of one row
 mod collect; // all rows of a file
 mod handover; // the lent buffers filled

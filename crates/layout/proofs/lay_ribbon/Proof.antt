@@ -5,7 +5,7 @@ use Rattle.words.specs.Turn.{turned}
 use Rattle.words.proofs.Deciding.{holds}
 use Rattle.lists.proofs.Rules.{is-fit-list}
 use Rattle.greedy.specs.Dropping.{kept}
-use Rattle.faces.proofs.Cutting.{cut-parts, cut-in-run, fit-small}
+use Rattle.parts.proofs.Cutting.{cut-parts, cut-in-run, fit-small}
 use Rattle.layout.proofs.Stages.{gives-false, gives-kept}
 use borrow.Author.Needs.{needs}
 use Rattle.layout.proofs.lay_ribbon.Statement.{statement}

@@ -4,7 +4,7 @@ use mathlib.Core.Path.{_≡_}
 use Prim.Native.Nat.{_*_, _-_, _≤_}
 use lib.ListN.{length}
 use Rattle.joins.specs.Pass.{PassedRow}
-use Rattle.faces.specs.Parts.{partShared}
+use Rattle.parts.specs.Parts.{partShared}
 use Rattle.faces.proofs.pass.join_faces_at.Statement.{statement}
 use Rattle.faces.proofs.pass.join_faces_at.Tie as tie
 

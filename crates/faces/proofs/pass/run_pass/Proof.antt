@@ -6,7 +6,7 @@ use Prim.Native.Nat.{suc, _*_, _-_}
 use lib.ListN.{length}
 use Rattle.joins.specs.Pass.{PassedRow}
 use Rattle.joins.proofs.Passing.{row-down, row-end}
-use Rattle.faces.specs.Parts.{partShared}
+use Rattle.parts.specs.Parts.{partShared}
 use Rattle.faces.proofs.Passing.{pass-begun}
 use Rattle.faces.proofs.pass.run_pass.Statement.{statement}
 use Rattle.faces.proofs.pass.run_pass.Tie as tie

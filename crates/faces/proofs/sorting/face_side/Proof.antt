@@ -3,7 +3,7 @@ use borrow.Author.Needs.{needs}
 use mathlib.Core.Path.{ap, _∙_}
 use Prim.Native.Nat.{_/_}
 use lib.ListN.{length}
-use Rattle.faces.proofs.Parts.{part-size}
+use Rattle.parts.proofs.Parts.{part-size}
 use native.Mathlib.Omega.{arith}
 use Rattle.faces.proofs.sorting.face_side.Statement.{statement}
 use Rattle.faces.proofs.sorting.face_side.Tie as tie

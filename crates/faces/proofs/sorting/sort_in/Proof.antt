@@ -3,7 +3,7 @@ use borrow.Author.Needs.{needs}
 use mathlib.Core.Path.{sym}
 use Prim.Native.Nat.{_/_}
 use native.Mathlib.Omega.{arith}
-use Rattle.faces.proofs.Parts.{face-size}
+use Rattle.parts.proofs.Parts.{face-size}
 use Rattle.faces.proofs.Rising.{narrow-none, seeks, sorted-next}
 use Rattle.faces.proofs.sorting.sort_in.Statement.{statement}
 use Rattle.faces.proofs.sorting.sort_in.Tie as tie

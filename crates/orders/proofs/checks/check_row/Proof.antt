@@ -6,7 +6,7 @@ use lib.ListN.{length}
 use borrow.Author.Tests.{not-true, not-false}
 use borrow.Author.Needs.{needs}
 use Rattle.lists.specs.Runs.{codesIn, total}
-use Rattle.orders.specs.Scans.{partOf, ReadsRow}
+use Rattle.rows.specs.Scans.{partOf, ReadsRow}
 use Rattle.orders.specs.Gathering.{fieldsFault}
 use Rattle.orders.proofs.Checking.{checks-broken, checks-wide, checks-two}
 use Rattle.orders.proofs.checks.check_row.Statement.{statement}
