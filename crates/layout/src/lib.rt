@@ -69,8 +69,8 @@ fn lay_kept(bands: &[u8], starts: &[usize], sizes: &[usize], n: usize, ribbon: &
 }
 
 // Lays out a list of codes, one run of bands and a length for each, into a lent ribbon. It answers with the ribbon's length
-// and what is saved. It refuses 12 a false list, 14 where joining gets stuck, 13 a ribbon that is too short; then nothing
-// lent is touched.
+// and what is saved. It refuses a false list by 12, and a ribbon that is too short by 13; then nothing lent is touched. 14 is
+// never due.
 pub fn lay_ribbon(bands: &[u8], lengths: &[u16], ribbon: &mut [u8]) -> Laid
     ensures { λ r. ⌜ LaysRibbon (now (bands .entry)) (now (lengths .entry)) (now (ribbon .entry)) (now (ribbon .exit)) r ⌝ }
 {
