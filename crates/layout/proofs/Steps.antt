@@ -7,13 +7,15 @@ use Prim.Native.Nat.{ℕ, zero, suc, _+_, _-_, _*_, _/_, _%_, _≤_, _<_}
 use native.Mathlib.Numerals.{add-one}
 use native.Mathlib.Omega.{arith}
 use lib.Dec.{eqb}
-use lib.ListN.{length, take, drop, getD, set, length-append, length-drop}
-use lib.Seq.{paste, paste-suc, take-append-seam, take-length, drop-append-add, drop-drop, getD-drop}
+use lib.ListN.{length, take, drop, getD, length-append, length-drop}
 use Rattle.words.specs.Turn.{turned}
 use Rattle.words.specs.Ways.{wayOf}
+use Rattle.words.specs.Written.{Written}
 use Rattle.words.proofs.Ways.{way-size}
+use Rattle.words.proofs.Written.{both-written}
 use Rattle.words.proofs.Overlaps.{overlap-right}
 use Rattle.lists.specs.Runs.{over}
+use Rattle.lists.proofs.Runs.{over-written, written-over}
 use Rattle.greedy.specs.Reading.{faceOf, shared, past, readPiece, savedAlong, skipAt}
 use Rattle.parts.specs.Parts.{partAt, partsOf, faceAt, faceShared, partShared, PartThere}
 use Rattle.layout.specs.Ribbons.{InOrder, partSkip, partRibbon, partSaved}
@@ -71,25 +73,6 @@ module _ (turn : List ℕ → List ℕ) (ks : List (List ℕ)) where
         length-append (faceOf turn ks f) (past turn ks f p),
         past-part f p i,
       )
-
--- words written one behind the other over a row are written over it as one
-pasted : (w s row : List ℕ) (k : ℕ) → length s ≡ k → paste (over w row) (length w) s k ≡ over (w ++ s) row
-pasted w s row k e =
-    cc (
-      take-append-seam w (drop (length w) row),
-      ap (λ (m : ℕ). take m s) (sym e),
-      take-length s,
-      drop-append-add w (drop (length w) row) k,
-      drop-drop k (length w) row,
-      ap (λ (m : ℕ). drop m row) (length-append w s ∙ ap (λ (m : ℕ). length w + m) e),
-    )
-
--- one band more of a word F past its first o
-pub paste-band : (F : List ℕ) (o : ℕ) (d row : List ℕ) (at j v : ℕ) → row ≡ paste d at (drop o F) j → v ≡ getD F (o + j) 0
-    → at + j < length d → j < length F - o → set row (at + j) v ≡ paste d at (drop o F) (j + 1)
-paste-band F o d row at j v e f h k =
-    let l : j < length (drop o F) = omega (arith, length-drop o F) in
-    rw (add-one j) (cc (paste-suc d at (drop o F) j 0 h l, getD-drop o F j 0))
 
 -- The same of parts of a run, as the routines have them.
 module _ {run starts sizes : List ℕ} {n : ℕ} {p : List ℕ} (o : InOrder run starts sizes n p) {i : ℕ} (h : i < length p) where
@@ -154,16 +137,6 @@ module _ {run starts sizes : List ℕ} {n : ℕ} {p : List ℕ} (o : InOrder run
       ≤ length (partRibbon run starts sizes n p)
   face-fits = omega (arith, longer, size-at, read-part turned (partsOf run starts sizes n) p (i + 1))
 
-  -- a face written behind the ribbon of those before it
-  pub written : (row : List ℕ)
-      → paste (over (partRibbon run starts sizes n (take i p)) row) (length (partRibbon run starts sizes n (take i p)))
-      (drop (partSkip run starts sizes n p i) face) (length face - partSkip run starts sizes n p i)
-      ≡ over (partRibbon run starts sizes n (take (i + 1) p)) row
-  written row =
-      pasted (partRibbon run starts sizes n (take i p)) (drop (partSkip run starts sizes n p i) face) row
-      (length face - partSkip run starts sizes n p i) (length-drop (partSkip run starts sizes n p i) face)
-      ∙ ap (λ (r : List ℕ). over r row) (sym grown)
-
   -- what the sums of lengths and savings ask, a face at a time
   pub size-small : getD sizes (getD p i 0 / 2) 0 ≤ 64
   size-small = o .in-run .short (getD p i 0 / 2) (omega (arith, o .faces i h))
@@ -177,12 +150,11 @@ module _ {run starts sizes : List ℕ} {n : ℕ} {p : List ℕ} (o : InOrder run
       pub write-fits : {room : ℕ} → length (partRibbon run starts sizes n p) ≤ room → (s ≤ length c) × (at + (length c - s) ≤ room)
       write-fits l = (omega (arith, skip-in, part-long), omega (arith, face-fits, part-long))
 
-      pub write-end : {r : ℕ} → r ≡ at + (length c - s) → r ≡ length (partRibbon run starts sizes n (take (i + 1) p))
-      write-end e = omega (arith, longer, size-at, part-long)
-
-      pub write-next : (row : List ℕ) {old new : List ℕ} → old ≡ over (partRibbon run starts sizes n (take i p)) row
-          → new ≡ paste old at (drop s (wayOf (eqb (getD p i 0 % 2) 1) c)) (length c - s)
-          → new ≡ over (partRibbon run starts sizes n (take (i + 1) p)) row
-      write-next row e f =
-          let l : length c - s ≡ length face - partSkip run starts sizes n p i = omega (arith, part-long) in
-          f ∙ rw (l, c-is, s-is, at-is, e) (written row)
+      pub write-next : (row : List ℕ) {old new : List ℕ} {r : ℕ} → old ≡ over (partRibbon run starts sizes n (take i p)) row
+          → Written old at (drop s (wayOf (eqb (getD p i 0 % 2) 1) c)) new r
+          → (r ≡ length (partRibbon run starts sizes n (take (i + 1) p)))
+          × (new ≡ over (partRibbon run starts sizes n (take (i + 1) p)) row)
+      write-next row {old} {new} {r} e w =
+          let t = partRibbon run starts sizes n (take i p) in
+          let v : Written row 0 t old at = rw (e, at-is) (over-written t row) in
+          rw grown (written-over (both-written (omega arith) v (rw (c-is, s-is) at w)))

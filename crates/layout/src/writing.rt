@@ -1,9 +1,7 @@
 // The ribbon of an order of faces, whatever the order: its length, what it saves, and its bands.
 ghost use mathlib.Core.Path.{_≡_};
-ghost use Prim.Native.Nat.{_+_, _-_, _/_, _<_, _≤_};
-ghost use lib.ListN.{length, drop, getD};
-ghost use lib.Seq.{paste};
-ghost use Rattle.words.specs.Ways.{wayOf};
+ghost use Prim.Native.Nat.{_/_, _<_, _≤_};
+ghost use lib.ListN.{length, getD};
 ghost use Rattle.lists.specs.Runs.{over};
 ghost use Rattle.parts.specs.Parts.{PartThere, faceShared};
 ghost use Rattle.layout.specs.Ribbons.{InOrder, partSkip, partRibbon, Measures};
@@ -72,19 +70,6 @@ pub fn measure(bands: &[u8], starts: &[usize], sizes: &[usize], n: usize, order:
     }
 }
 
-// The bands of a way of c past the first o are written from `at` on; the place behind them.
-fn write_way(c: &[u8], way: bool, o: usize, ribbon: &mut [u8], at: usize) -> usize
-    requires { ⌜ (o ≤ length (now c)) × (at + (length (now c) - o) ≤ length (now ribbon)) ⌝ }
-    ensures { λ r. ⌜ (r ≡ at + (length (now (c .entry)) - o)) × (now (ribbon .exit) ≡ paste (now (ribbon .entry)) at (drop o (wayOf way (now (c .entry)))) (length (now (c .entry)) - o)) ⌝ }
-{
-    let mut j = 0;
-    while j < c.len() - o {
-        ribbon[at + j] = words::band_at(c, way, o + j);
-        j += 1;
-    }
-    at + j
-}
-
 // The ribbon at the beginning of a row that has room for it.
 pub fn write_bands(
     bands: &[u8],
@@ -102,7 +87,7 @@ pub fn write_bands(
     while i < order.len() {
         let o = skip_at(bands, starts, sizes, n, order, i);
         let f = order[i];
-        at = write_way(part(bands, starts, sizes, f / 2), f % 2 == 1, o, ribbon, at);
+        at = words::put_way(part(bands, starts, sizes, f / 2), f % 2 == 1, o, ribbon, at);
         i += 1;
     }
 }

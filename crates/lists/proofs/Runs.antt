@@ -1,7 +1,7 @@
 -- A run cut into words and joined again is as before, and words joined into a run and cut again are as before: each by
 -- induction over the words, or over their lengths.
 use mathlib.Core.Path.{_≡_, refl, ap, _∙_}
-use mathlib.Core.List.{List, [], _∷_}
+use mathlib.Core.List.{List, [], _∷_, _++_}
 use Prim.Native.Nat.{ℕ, suc, _+_}
 use native.Mathlib.Omega.{arith}
 use lib.ListN.{length, drop, length-append, length-drop, take-append-drop}
@@ -45,3 +45,8 @@ adds-up run ls f l = cc (total-lengths (codesIn run ls))
 pub written-over : {buffer xs after : List ℕ} {end : ℕ} → Written buffer 0 xs after end → (end ≡ length xs) × (after ≡ over xs buffer)
 written-over {buffer} {xs} w =
     let e : 0 + length xs ≡ length xs = omega arith in (w .end-is ∙ e, w .after-is ∙ rw e)
+
+pub over-written : (xs buffer : List ℕ) → Written buffer 0 xs (over xs buffer) (length xs)
+over-written xs buffer =
+    let e : length xs ≡ 0 + length xs = omega arith in
+    record { after-is = ap (λ (n : ℕ). xs ++ drop n buffer) e; end-is = e }

@@ -2,11 +2,12 @@
 use mathlib.Core.Path.{_≡_, refl, sym, ap, _∙_}
 use mathlib.Core.Logic.{_⊎_, inl, inr, _≢_}
 use mathlib.Core.List.{List}
-use Prim.Native.Nat.{ℕ, zero, suc, _≤_, _<_}
+use Prim.Native.Nat.{ℕ, zero, suc, _+_, _≤_, _<_}
 use native.Mathlib.Omega.{arith}
 use lib.Dec.{eqb·suc-zero}
 use borrow.Author.Tests.{lt-ltb, le-ltb, eq-eqb}
 use lib.ListN.{length, take, length-map}
+use lib.Seq.{length-take-le}
 use Rattle.lists.specs.Refusals.{refusal, longFile, wrongHeading}
 use Rattle.lists.specs.Runs.{flat, lengths, over}
 use Rattle.lists.specs.Outcome.{outcome}
@@ -19,6 +20,10 @@ use Rattle.orders.specs.declared.collect.Gathered.{Gathered}
 use Rattle.orders.specs.declared.Read.the-variants as answers
 use Rattle.grammar.proofs.Answers.{if-short, if-filled}
 use Rattle.orders.proofs.Filing.{filed-size, filed-count}
+
+-- the first n bytes of a buffer fit where n do
+pub part-fits : (n : ℕ) (xs ys : List ℕ) → n ≤ length xs → n ≤ length ys → 0 + length (take n xs) ≤ length ys
+part-fits n xs ys h k = omega (arith, length-take-le n xs h)
 
 refused-as : (b : Lent) (n l : ℕ) (ns cs : List (List ℕ)) → n ≢ 0
     → outcomeFor (orders n l ns cs) b ≡ outcome (refused (refusal n l)) b

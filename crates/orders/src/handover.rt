@@ -47,9 +47,9 @@ pub fn hand_over(
     if sizes.len() < codes {
         return Read::Refused(Refusal { number: 13, row: 0 });
     }
-    copy_bytes(code_run, band_count, bands);
+    words::put_word(&code_run[..band_count], bands, 0);
     copy_lengths(code_lengths, codes, lengths);
-    copy_bytes(name_run, name_count, names);
+    words::put_word(&name_run[..name_count], names, 0);
     copy_lengths(name_lengths, codes, sizes);
     Read::Orders {
         codes: codes as u32,
@@ -58,19 +58,7 @@ pub fn hand_over(
     }
 }
 
-// The first n bytes, written at the beginning of a buffer.
-fn copy_bytes(from: &[u8], n: usize, to: &mut [u8])
-    requires { ⌜ (n ≤ length (now from)) × (n ≤ length (now to)) ⌝ }
-    ensures { λ _. ⌜ now (to .exit) ≡ over (take n (now (from .entry))) (now (to .entry)) ⌝ }
-{
-    let mut i = 0;
-    while i < n {
-        to[i] = from[i];
-        i += 1;
-    }
-}
-
-// The same for lengths.
+// The first n lengths, written at the beginning of a buffer.
 fn copy_lengths(from: &[u16], n: usize, to: &mut [u16])
     requires { ⌜ (n ≤ length (now from)) × (n ≤ length (now to)) ⌝ }
     ensures { λ _. ⌜ now (to .exit) ≡ over (take n (now (from .entry))) (now (to .entry)) ⌝ }

@@ -4,25 +4,26 @@
 use mathlib.Core.Path.{_≡_, sym, ap, subst, _∙_}
 use mathlib.Core.Logic.{inl, inr}
 use mathlib.Core.Bool.{true, false}
-use mathlib.Core.List.{List, [], _∷_, _++_, append-assoc}
+use mathlib.Core.List.{List, [], _∷_, _++_}
 use Prim.Native.Nat.{ℕ, _+_, _*_, _≤_}
 use native.Mathlib.Omega.{arith}
 use native.Mathlib.Nat.{mul-suc}
 use lib.Dec.{eqb}
 use lib.ListN.{length, take, drop, length-append, length-drop, length-map}
-use lib.Seq.{take-append-seam, drop-append-add, drop-drop, length-take-le}
+use lib.Seq.{take-append-seam, length-take-le}
 use borrow.Author.Tests.{ne-eqb}
 use Rattle.words.specs.Lists.{Each}
 use Rattle.words.proofs.Lists.{each-map}
 use Rattle.words.specs.Turn.{turned}
 use Rattle.words.specs.Written.{Written}
+use Rattle.words.proofs.Written.{both-written}
 use Rattle.words.proofs.Deciding.{holds}
 use Rattle.lists.specs.Refusals.{refusal}
 use Rattle.lists.specs.Answers.{refusalOf}
 use Rattle.lists.specs.Runs.{codesIn, total, flat, lengths, over}
 use Rattle.lists.specs.Rules.{CodeRule, NameRule, FitList, FitNames}
 use Rattle.lists.specs.Fit.{listOk}
-use Rattle.lists.proofs.Runs.{total-lengths}
+use Rattle.lists.proofs.Runs.{total-lengths, over-written, written-over}
 use Rattle.lists.proofs.Rules.{is-fit-list, is-fit-names}
 use Rattle.grammar.specs.Files.{lineBreak}
 use Rattle.grammar.specs.Files as files
@@ -86,23 +87,10 @@ module _ (run ls before : List ℕ) {after : List ℕ} (ok : listOk run ls ≡ t
     pub line-written : {new : List ℕ} {r : ℕ} → Written after n lineBreak new r
         → WritesOver (ribbonFor turned (codesIn run ls) ++ lineBreak) before new r
     line-written w =
-        let t = ribbonFor turned (codesIn run ls) in
-        writes-over
-        (omega (arith, w .end-is, size-is, length-append t lineBreak))
-        (ended t before (w .after-is ∙ rw (size-is, left-is)))
-      where
-        ended : (t before : List ℕ) {new : List ℕ}
-            → new ≡ take (length t) (over t before) ++ (lineBreak ++ drop (length t + length lineBreak) (over t before))
-            → new ≡ over (t ++ lineBreak) before
-        ended t before e =
-            e
-            ∙ cc (
-              take-append-seam t (drop (length t) before),
-              drop-append-add t (drop (length t) before) (length lineBreak),
-              drop-drop (length lineBreak) (length t) before,
-              append-assoc t lineBreak (drop (length (t ++ lineBreak)) before),
-              ap (λ (k : ℕ). drop k before) (length-append t lineBreak),
-            )
+        let v : Written before 0 (ribbonFor turned (codesIn run ls)) after n =
+        rw (left-is, size-is) (over-written (ribbonFor turned (codesIn run ls)) before) in
+        let u = written-over (both-written (omega arith) v w) in
+        writes-over (u .0) (u .1)
 
 -- the program's output for what a file is read as
 outputFor : files.Orders → List ℕ

@@ -11,8 +11,8 @@ use Rattle.words.specs.Written.{Written}
 
 -- A copy, band by band.
 module _ (row : List ℕ) (at : ℕ) (s : List ℕ) {now : List ℕ} {j : ℕ} (so-far : now ≡ paste row at s j) where
-  pub copy-more : at + j < length row → j < length s → set now (at + j) (getD s j 0) ≡ paste row at s (j + 1)
-  copy-more h l = rw (add-one j, so-far) (paste-suc row at s j 0 h l)
+  pub copy-more : {v : ℕ} → v ≡ getD s j 0 → at + j < length row → j < length s → set now (at + j) v ≡ paste row at s (j + 1)
+  copy-more e h l = rw (add-one j, so-far, e) (paste-suc row at s j 0 h l)
 
   pub copy-written : j ≡ length s → Written row at s now (at + j)
   copy-written e =

@@ -9,4 +9,5 @@ pub use bands::same;
 pub use endings::overlap;
 pub use starts::stands;
 pub use starts::stands_way;
+pub use writing::put_way;
 pub use writing::put_word;

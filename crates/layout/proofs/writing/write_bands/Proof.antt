@@ -1,5 +1,5 @@
 use lib.Seq.{take-all}
-use Rattle.layout.proofs.Steps.{face-at, write-fits, write-end, write-next}
+use Rattle.layout.proofs.Steps.{face-at, write-fits, write-next}
 use borrow.Author.Needs.{needs}
 use native.Mathlib.Omega.{arith}
 use mathlib.Core.Path.{_≡_}
@@ -31,8 +31,8 @@ shared-slice-read-f c = search needs
 part-requires : tie.Need-part-requires Inv-loop μ-loop
 part-requires c κs = face-at (c .before .before .before .before .before .before .before .before .before .pre .0) (c .before .before .loop-test .taken)
 
-write-way-requires : tie.Need-write-way-requires Inv-loop μ-loop
-write-way-requires c κs =
+put-way-requires : tie.Need-put-way-requires Inv-loop μ-loop
+put-way-requires c κs =
     let k = c .before .before .before .before .before .before .before .before .before .before .before in
     let l = c .before .before .before .before .before .loop in
     write-fits (k .pre .0) (c .before .before .before .before .loop-test .taken) (c .before .part .ensures) (c .before .before .before .skip-at .ensures) (l .inv .2)
@@ -50,12 +50,9 @@ loop-again c =
     let l = c .before .before .before .before .before .before .before .before .loop in
     let h = c .before .before .before .before .before .before .before .loop-test .taken in
     let p = c .before .before .before .before .part .ensures in
-    let s = c .before .before .before .before .before .before .skip-at .ensures in (
-      search needs,
-      search needs,
-      write-end (k .pre .0) h p s (l .inv .2) (c .before .before .write-way .ensures .0),
-      write-next (k .pre .0) h p s (l .inv .2) (k .args .ribbon .now) (l .inv .3) (c .before .before .write-way .ensures .1),
-    )
+    let s = c .before .before .before .before .before .before .skip-at .ensures in
+    let w = write-next (k .pre .0) h p s (l .inv .2) (k .args .ribbon .now) (l .inv .3) (c .before .before .put-way .ensures) in
+    (search needs, search needs, w .0, w .1)
 
 same-length : tie.Need-same-length Inv-loop μ-loop
 same-length c = search needs
@@ -78,7 +75,7 @@ write-bands-spec =
     mul-f
     shared-slice-read-f
     part-requires
-    write-way-requires
+    put-way-requires
     add-i
     loop-less
     loop-again

@@ -1,7 +1,10 @@
 -- `hand_over` meets its contract: each answer is the outcome's, by the tests that led to it and what the copies leave.
+use mathlib.Core.Path.{sym}
 use mathlib.Core.Logic.{inl, inr}
+use lib.Seq.{length-take-le}
+use Rattle.lists.proofs.Runs.{written-over}
+use Rattle.orders.proofs.HandingOver.{part-fits, gives-refused, gives-short, gives-filled}
 use borrow.Author.Needs.{needs}
-use Rattle.orders.proofs.HandingOver.{gives-refused, gives-short, gives-filled}
 use Rattle.orders.proofs.handover.hand_over.Statement.{statement}
 use Rattle.orders.proofs.handover.hand_over.Tie as tie
 
@@ -20,26 +23,36 @@ returns-4 c = λ x g. gives-short g _ (c .before .before .before .if1 .left) (in
 returns-5 : tie.Need-returns-5
 returns-5 c = λ x g. gives-short g _ (c .before .before .before .before .if1 .left) (inr (inr (inr (c .if5 .taken))))
 
-copy-bytes-requires : tie.Need-copy-bytes-requires
-copy-bytes-requires c κs = search needs
+slice-aggregate-put-word : tie.Need-slice-aggregate-put-word
+slice-aggregate-put-word c = sym (length-take-le _ _ (search needs))
+
+put-word-requires : tie.Need-put-word-requires
+put-word-requires c κs =
+    let a = c .before .before .before .before .before .before .before .before .before .before .before .before .before .before .before .args in
+    part-fits (a .all .bands) (a .code-run .now) (a .bands .now) (search needs) (search needs)
 
 copy-lengths-requires : tie.Need-copy-lengths-requires
 copy-lengths-requires c κs = search needs
 
-copy-bytes-requires-2 : tie.Need-copy-bytes-requires-2
-copy-bytes-requires-2 c κs = search needs
+slice-aggregate-put-word-2 : tie.Need-slice-aggregate-put-word-2
+slice-aggregate-put-word-2 c = sym (length-take-le _ _ (search needs))
+
+put-word-requires-2 : tie.Need-put-word-requires-2
+put-word-requires-2 c κs =
+    let a = c .before .before .before .before .before .before .before .before .before .before .before .before .before .before .before .before .before .before .before .before .before .before .before .before .args in
+    part-fits (a .all .names) (a .name-run .now) (a .names .now) (search needs) (search needs)
 
 copy-lengths-requires-2 : tie.Need-copy-lengths-requires-2
 copy-lengths-requires-2 c κs = search needs
 
-cast-t30 : tie.Need-cast-t30
-cast-t30 c = search needs
+cast-t34 : tie.Need-cast-t34
+cast-t34 c = search needs
 
-cast-t31 : tie.Need-cast-t31
-cast-t31 c = search needs
+cast-t35 : tie.Need-cast-t35
+cast-t35 c = search needs
 
-cast-t32 : tie.Need-cast-t32
-cast-t32 c = search needs
+cast-t36 : tie.Need-cast-t36
+cast-t36 c = search needs
 
 same-length : tie.Need-same-length
 same-length c = search needs
@@ -57,12 +70,12 @@ returns-6 : tie.Need-returns-6
 returns-6 c = λ x g.
     let z = c .before .before in
     let n = z .before .before .before .before in
-    let l = n .before .before .before .before in
+    let l = n .before .before .before .before .before in
     let b = l .before .before .before .before in
-    let e = b .before .before in
+    let e = b .before .before .before in
     gives-filled g _ (e .before .before .before .before .if1 .left) (e .before .before .before .if2 .left) (e .before .before .if3 .left)
-    (e .before .if4 .left) (e .if5 .left) (b .copy-bytes .ensures) (l .copy-lengths .ensures) (n .copy-bytes2 .ensures)
-    (z .copy-lengths2 .ensures)
+    (e .before .if4 .left) (e .if5 .left) (written-over (b .put-word .ensures) .1) (l .copy-lengths .ensures)
+    (written-over (n .put-word2 .ensures) .1) (z .copy-lengths2 .ensures)
 
 pub hand-over-spec : {M : Type 1} → statement M
 hand-over-spec =
@@ -73,13 +86,15 @@ hand-over-spec =
     returns-3
     returns-4
     returns-5
-    copy-bytes-requires
+    slice-aggregate-put-word
+    put-word-requires
     copy-lengths-requires
-    copy-bytes-requires-2
+    slice-aggregate-put-word-2
+    put-word-requires-2
     copy-lengths-requires-2
-    cast-t30
-    cast-t31
-    cast-t32
+    cast-t34
+    cast-t35
+    cast-t36
     same-length
     same-length-2
     same-length-3
