@@ -20,6 +20,7 @@ use Rattle.greedy.proofs.Dropping.{keeper-ours, keeper-only}
 use Rattle.greedy.proofs.Laying.{lays-twice, never-stuck-rule}
 use Rattle.greedy.proofs.Claims.{lays-ours, lays-only, each-laid, starred-lay}
 use Rattle.greedy.proofs.Answers.{lays-out-ours, lays-out-only, laid-means}
+use Rattle.layout.proofs.Calls.{demand-3-of-call}
 use Rattle.greedy.proofs.Room.{ribbon-at-most, accepts}
 use Rattle.sheets.proofs.Answers.{sheets-ours, sheets-only}
 use Rattle.sheets.proofs.Room.{accepts as sheet-accepts}
@@ -93,5 +94,6 @@ all-demands =
       adds-up = λ cs. each-laid turned turning cs .adds-up;
       reads-back = λ names codes ribbon sheet x printed banded. reads-back x printed banded;
       at-most-twice = demand-3;
+      of-the-call = λ run ls before after bands saved p. demand-3-of-call p;
       any-ties = λ turn t cs ribbon saved l. lays-twice t l;
     }

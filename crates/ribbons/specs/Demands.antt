@@ -28,6 +28,8 @@ use Rattle.greedy.specs.Rules.{Lays, Stuck, AllStand, AtMostTwice}
 use Rattle.greedy.specs.Layout.{ribbonFor, savedBy}
 use Rattle.greedy.specs.Answers.{LayOutcome, laid, LaysOut, layOutcome}
 use Rattle.greedy.specs.Starred.{Starred}
+use Rattle.layout.specs.Calls.{LaysRibbon}
+use Rattle.layout.specs.declared.Laid.the-variants.{Ribbon}
 use Rattle.sheets.specs.Sheet.{SheetFor}
 use Rattle.sheets.specs.Answers.{SheetOutcome, written, Sheets, sheetFor, sheetOutcome}
 use Rattle.sheets.specs.ReadBack.{ReadsBack}
@@ -92,6 +94,13 @@ Demand3 =
     → (rival : List ℕ) → AllStand turned (codesIn run ls) rival
     → total (lengths (kept turned (codesIn run ls))) ≤ length rival + 2 * saved
 
+-- The same of the call itself, whatever it does inside: all that is known is what lay_ribbon promises.
+abbrev pub Demand3OfCall : Type 0
+Demand3OfCall =
+    (run ls before after : List ℕ) (bands saved : ℕ) → LaysRibbon run ls before after (Ribbon bands saved)
+    → (rival : List ℕ) → AllStand turned (codesIn run ls) rival
+    → total (lengths (kept turned (codesIn run ls))) ≤ length rival + 2 * saved
+
 pub record Demands : Type 0 where
   -- 1. Nothing unfit is accepted, and what is refused leaves lent memory untouched: `reading`, `laying`, `checking` and
   -- `sheets` of the records above. A fit list is accepted, into a buffer of 8,192 bytes, its sheet into one of 16,534; none
@@ -115,7 +124,9 @@ pub record Demands : Type 0 where
       → length (ribbonFor turned cs) + savedBy turned cs ≡ total (lengths (kept turned cs))
   pub reads-back : (names codes : List (List ℕ)) (ribbon sheet : List ℕ) → SheetFor names codes ribbon sheet
       → Each (Each Printed) names → Each (Each Band) codes → ReadsBack names codes ribbon sheet
-  -- 3. The bound, of our answer; and of every run of largest joins, whoever settles the ties, for every way of turning.
+  -- 3. The bound, of our answer and of the call; and of every run of largest joins, whoever settles the ties, for every way
+  -- of turning.
   pub at-most-twice : Demand3
+  pub of-the-call : Demand3OfCall
   pub any-ties : (turn : List ℕ → List ℕ) → Turning turn → (cs : List (List ℕ)) (ribbon : List ℕ) (saved : ℕ)
       → Lays Largest turn cs ribbon saved → AtMostTwice turn cs saved
