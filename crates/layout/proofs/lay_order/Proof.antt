@@ -1,5 +1,6 @@
-use Rattle.layout.proofs.Stages.{gives-short, gives-ribbon}
+-- `lay_order`: by its sums the ribbon is too long for the buffer, or it is written.
 use borrow.Author.Needs.{needs}
+use Rattle.layout.proofs.Stages.{gives-short, gives-ribbon}
 use Rattle.layout.proofs.lay_order.Statement.{statement}
 use Rattle.layout.proofs.lay_order.Tie as tie
 

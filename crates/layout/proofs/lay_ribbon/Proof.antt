@@ -1,13 +1,15 @@
-use Rattle.layout.proofs.Calls.{lays-ribbon}
+-- `lay_ribbon`: a list that passes the test is fit, so its codes are cut from the run, and the outcome is that of the kept
+-- ones; what the outcome means follows from it.
 use mathlib.Core.Path.{sym, ap, _∙_}
 use borrow.Author.Tests.{not-true, not-false}
+use borrow.Author.Needs.{needs}
+use Rattle.layout.proofs.Calls.{lays-ribbon}
 use Rattle.words.specs.Turn.{turned}
 use Rattle.words.proofs.Deciding.{holds}
 use Rattle.lists.proofs.Rules.{is-fit-list}
 use Rattle.greedy.specs.Dropping.{kept}
 use Rattle.parts.proofs.Cutting.{cut-parts, cut-in-run, fit-small}
 use Rattle.layout.proofs.Stages.{gives-false, gives-kept}
-use borrow.Author.Needs.{needs}
 use Rattle.layout.proofs.lay_ribbon.Statement.{statement}
 use Rattle.layout.proofs.lay_ribbon.Tie as tie
 

@@ -1,3 +1,4 @@
+-- `writing::face_overlap`: a face is a way of its part, so the overlap of the parts' ways is that of the faces.
 use borrow.Author.Needs.{needs}
 use Rattle.layout.proofs.writing.face_overlap.Statement.{statement}
 use Rattle.layout.proofs.writing.face_overlap.Tie as tie

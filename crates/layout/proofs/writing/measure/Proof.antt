@@ -1,10 +1,11 @@
-use lib.Seq.{take-all}
-use Rattle.layout.proofs.Steps.{face-at, skip-size, size-small, longer, saves}
-use borrow.Author.Needs.{needs}
-use native.Mathlib.Omega.{arith}
+-- `writing::measure`. The loop's invariant: length and saving of the ribbon of the first i faces, at most 64 a face each.
 use mathlib.Core.Path.{_≡_}
 use Prim.Native.Nat.{_*_, _-_, _≤_}
+use native.Mathlib.Omega.{arith}
+use lib.Seq.{take-all}
 use lib.ListN.{length, take}
+use borrow.Author.Needs.{needs}
+use Rattle.layout.proofs.Steps.{face-at, skip-size, size-small, longer, saves}
 use Rattle.layout.specs.Ribbons.{partRibbon, partSaved}
 use Rattle.layout.proofs.writing.measure.Statement.{statement}
 use Rattle.layout.proofs.writing.measure.Tie as tie

@@ -1,5 +1,6 @@
-use Rattle.layout.proofs.Steps.{face-at, skip-next}
+-- `writing::skip_at`: nothing for the first face, else the overlap with the face before.
 use borrow.Author.Needs.{needs}
+use Rattle.layout.proofs.Steps.{face-at, skip-next}
 use Rattle.layout.proofs.writing.skip_at.Statement.{statement}
 use Rattle.layout.proofs.writing.skip_at.Tie as tie
 

@@ -1,10 +1,11 @@
-use lib.Seq.{take-all}
-use Rattle.layout.proofs.Steps.{face-at, write-fits, write-next}
-use borrow.Author.Needs.{needs}
-use native.Mathlib.Omega.{arith}
+-- `writing::write_bands`. The loop's invariant: the ribbon of the first i faces is written, and the next goes behind it.
 use mathlib.Core.Path.{_≡_}
 use Prim.Native.Nat.{_-_, _≤_}
+use native.Mathlib.Omega.{arith}
+use lib.Seq.{take-all}
 use lib.ListN.{length, take}
+use borrow.Author.Needs.{needs}
+use Rattle.layout.proofs.Steps.{face-at, write-fits, write-next}
 use Rattle.lists.specs.Runs.{over}
 use Rattle.layout.specs.Ribbons.{partRibbon}
 use Rattle.layout.proofs.writing.write_bands.Statement.{statement}

@@ -1,5 +1,6 @@
-use Rattle.parts.proofs.Parts.{part-there, held-as, not-held}
+-- `contained::held_by`: the two tests are those of the codes that the parts are.
 use borrow.Author.Needs.{needs}
+use Rattle.parts.proofs.Parts.{part-there, held-as, not-held}
 use Rattle.parts.proofs.contained.held_by.Statement.{statement}
 use Rattle.parts.proofs.contained.held_by.Tie as tie
 

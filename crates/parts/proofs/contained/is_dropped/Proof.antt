@@ -1,9 +1,9 @@
-use Rattle.parts.proofs.Sieving.{none-more, dropped-by, not-dropped}
-use mathlib.Core.Path.{sym, _∙_}
-use borrow.Author.Needs.{needs}
-use mathlib.Core.Path.{_≡_}
+-- `contained::is_dropped`. The loop's invariant: no part below j holds part i.
+use mathlib.Core.Path.{sym, _∙_, _≡_}
 use mathlib.Core.Bool.{false}
 use Prim.Native.Nat.{_-_, _≤_}
+use borrow.Author.Needs.{needs}
+use Rattle.parts.proofs.Sieving.{none-more, dropped-by, not-dropped}
 use Rattle.greedy.specs.Dropping.{someBelow}
 use Rattle.parts.specs.Parts.{partHeld}
 use Rattle.parts.proofs.contained.is_dropped.Statement.{statement}

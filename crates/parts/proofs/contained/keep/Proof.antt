@@ -1,8 +1,9 @@
-use Rattle.parts.proofs.Sieving.{sieve-start, sieve-end}
-use borrow.Author.Needs.{needs}
+-- `contained::keep`. The loop's invariant: of the first i parts those that are kept stand at the fronts of the two rows.
 use mathlib.Core.Path.{_≡_}
 use Prim.Native.Nat.{_-_}
 use lib.ListN.{length}
+use borrow.Author.Needs.{needs}
+use Rattle.parts.proofs.Sieving.{sieve-start, sieve-end}
 use Rattle.parts.specs.Parts.{Sieved}
 use Rattle.parts.proofs.contained.keep.Statement.{statement}
 use Rattle.parts.proofs.contained.keep.Tie as tie

@@ -1,6 +1,7 @@
+-- `contained::keep_next`: the parts gone through are one more, and those kept are one more where it is not dropped.
 use mathlib.Core.Path.{sym, _∙_}
-use Rattle.parts.proofs.Sieving.{sieve-drop, sieve-keep}
 use borrow.Author.Needs.{needs}
+use Rattle.parts.proofs.Sieving.{sieve-drop, sieve-keep}
 use Rattle.parts.proofs.contained.keep_next.Statement.{statement}
 use Rattle.parts.proofs.contained.keep_next.Tie as tie
 

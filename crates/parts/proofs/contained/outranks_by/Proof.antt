@@ -1,3 +1,4 @@
+-- `contained::outranks_by`: each answer is the test's, by the comparisons that led there.
 use borrow.Author.Tests.{lt-ltb, le-ltb, eq-eqb, ne-eqb}
 use Rattle.parts.proofs.contained.outranks_by.Statement.{statement}
 use Rattle.parts.proofs.contained.outranks_by.Tie as tie

@@ -1,7 +1,8 @@
-use borrow.Author.Needs.{needs}
-use native.Mathlib.Omega.{arith}
+-- `cuts::cut`. The loop's invariant: the next code starts at the sum of the lengths before it, and the codes so far are cut.
 use Prim.Native.Nat.{_-_}
+use native.Mathlib.Omega.{arith}
 use lib.ListN.{length}
+use borrow.Author.Needs.{needs}
 use Rattle.parts.proofs.Cutting.{Cutting, cut-next, cut-end, total-part}
 use Rattle.parts.proofs.cuts.cut.Statement.{statement}
 use Rattle.parts.proofs.cuts.cut.Tie as tie

@@ -1,6 +1,7 @@
+-- `cuts::part`: from a start to that start and a size is so many bands from the start on.
 use lib.ListN.{getD}
-use Rattle.parts.proofs.Parts.{from-to}
 use borrow.Author.Needs.{needs}
+use Rattle.parts.proofs.Parts.{from-to}
 use Rattle.parts.proofs.cuts.part.Statement.{statement}
 use Rattle.parts.proofs.cuts.part.Tie as tie
 
