@@ -14,11 +14,12 @@ pub fn lay(bands: &[u8], lengths: &[u16], ribbon: &mut [u8]) -> u32 {
     let mut order = [0; FACES];
     let count = order_codes(&kept, &mut order);
     let order = &order[..count];
-    let length = measure(&kept, order);
+    let mut skips = [0; FACES];
+    let length = measure(&kept, order, &mut skips);
     if ribbon.len() < length {
         return 0;
     }
-    write_bands(&kept, order, ribbon);
+    write_bands(&kept, order, &skips, ribbon);
     length as u32
 }
 
@@ -308,20 +309,21 @@ fn skip_at(parts: &Parts, order: &[usize], i: usize) -> usize {
     }
 }
 
-fn measure(parts: &Parts, order: &[usize]) -> usize {
+fn measure(parts: &Parts, order: &[usize], skips: &mut [usize]) -> usize {
     let mut long = 0;
     for i in 0..order.len() {
-        long += parts.sizes[order[i] / 2] - skip_at(parts, order, i);
+        skips[i] = skip_at(parts, order, i);
+        long += parts.sizes[order[i] / 2] - skips[i];
     }
     long
 }
 
-fn write_bands(parts: &Parts, order: &[usize], ribbon: &mut [u8]) {
+fn write_bands(parts: &Parts, order: &[usize], skips: &[usize], ribbon: &mut [u8]) {
     let mut at = 0;
     for i in 0..order.len() {
         let c = parts.part(order[i] / 2);
         let turned = order[i] % 2 == 1;
-        for j in skip_at(parts, order, i)..c.len() {
+        for j in skips[i]..c.len() {
             ribbon[at] = band_at(c, turned, j);
             at += 1;
         }

@@ -27,3 +27,8 @@ module _ (run starts sizes : List ℕ) (n : ℕ) where
     pub long : bands ≡ length (partRibbon p)
     pub saves : saved ≡ partSaved p
     pub small : (bands ≤ 16384) × (saved ≤ 16384)
+
+  -- what each face of the order shares with the one before it, at the front of a row
+  pub record Skips (p skips : List ℕ) : Type 0 where
+    pub room : length p ≤ length skips
+    pub each : (i : ℕ) → i < length p → getD skips i 0 ≡ partSkip p i

@@ -45,13 +45,14 @@ fn lay_order(
     requires { ⌜ InOrder (now bands) (now starts) (now sizes) n (now order) ⌝ }
     ensures { λ r. ⌜ Gives (orderOutcome (partsOf (now (bands .entry)) (now (starts .entry)) (now (sizes .entry)) n) (now (order .entry)) (now (ribbon .entry))) (now (ribbon .exit)) r ⌝ }
 {
-    let sums = measure(bands, starts, sizes, n, order);
+    let mut skips = [0usize; 256];
+    let sums = measure(bands, starts, sizes, n, order, &mut skips);
     let long = sums.bands;
     let saved = sums.saved;
     if ribbon.len() < long {
         return refused(13);
     }
-    write_bands(bands, starts, sizes, n, order, ribbon);
+    write_bands(bands, starts, sizes, n, order, &skips, ribbon);
     Laid::Ribbon {
         bands: long as u32,
         saved: saved as u32,

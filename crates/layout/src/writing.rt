@@ -4,7 +4,7 @@ ghost use Prim.Native.Nat.{_/_, _<_, _≤_};
 ghost use lib.ListN.{length, getD};
 ghost use Rattle.lists.specs.Runs.{over};
 ghost use Rattle.parts.specs.Parts.{PartThere, faceShared};
-ghost use Rattle.layout.specs.Ribbons.{InOrder, partSkip, partRibbon, Measures};
+ghost use Rattle.layout.specs.Ribbons.{InOrder, partSkip, partRibbon, Measures, Skips};
 use parts::part;
 
 // A ribbon's length and what it saves.
@@ -50,16 +50,24 @@ fn size_at(sizes: &[usize], order: &[usize], i: usize) -> usize
     sizes[k]
 }
 
-// The sums along an order: what each face adds, and what it shares.
-pub fn measure(bands: &[u8], starts: &[usize], sizes: &[usize], n: usize, order: &[usize]) -> Sums
-    requires { ⌜ InOrder (now bands) (now starts) (now sizes) n (now order) ⌝ }
-    ensures { λ r. ⌜ Measures (now (bands .entry)) (now (starts .entry)) (now (sizes .entry)) n (now (order .entry)) (r .bands) (r .saved) ⌝ }
+// The sums along an order: what each face adds, and what it shares, which goes into a row of its own.
+pub fn measure(
+    bands: &[u8],
+    starts: &[usize],
+    sizes: &[usize],
+    n: usize,
+    order: &[usize],
+    skips: &mut [usize],
+) -> Sums
+    requires { ⌜ InOrder (now bands) (now starts) (now sizes) n (now order) × (length (now order) ≤ length (now skips)) ⌝ }
+    ensures { λ r. ⌜ Measures (now (bands .entry)) (now (starts .entry)) (now (sizes .entry)) n (now (order .entry)) (r .bands) (r .saved) × Skips (now (bands .entry)) (now (starts .entry)) (now (sizes .entry)) n (now (order .entry)) (now (skips .exit)) ⌝ }
 {
     let mut long = 0;
     let mut saved = 0;
     let mut i = 0;
     while i < order.len() {
         let o = skip_at(bands, starts, sizes, n, order, i);
+        skips[i] = o;
         long += size_at(sizes, order, i) - o;
         saved += o;
         i += 1;
@@ -77,15 +85,16 @@ pub fn write_bands(
     sizes: &[usize],
     n: usize,
     order: &[usize],
+    skips: &[usize],
     ribbon: &mut [u8],
 )
-    requires { ⌜ InOrder (now bands) (now starts) (now sizes) n (now order) × (length (partRibbon (now bands) (now starts) (now sizes) n (now order)) ≤ length (now ribbon)) ⌝ }
+    requires { ⌜ InOrder (now bands) (now starts) (now sizes) n (now order) × Skips (now bands) (now starts) (now sizes) n (now order) (now skips) × (length (partRibbon (now bands) (now starts) (now sizes) n (now order)) ≤ length (now ribbon)) ⌝ }
     ensures { λ _. ⌜ now (ribbon .exit) ≡ over (partRibbon (now (bands .entry)) (now (starts .entry)) (now (sizes .entry)) n (now (order .entry))) (now (ribbon .entry)) ⌝ }
 {
     let mut at = 0;
     let mut i = 0;
     while i < order.len() {
-        let o = skip_at(bands, starts, sizes, n, order, i);
+        let o = skips[i];
         let f = order[i];
         at = words::put_way(part(bands, starts, sizes, f / 2), f % 2 == 1, o, ribbon, at);
         i += 1;

@@ -15,6 +15,15 @@ use Rattle.greedy.specs.Dropping.{codeAt}
 use Rattle.parts.specs.Parts.{partAt, partsOf, InRun, CutInto}
 use Rattle.parts.proofs.Parts.{parts-length, part-is}
 
+-- a row that is right below i, and at i after a store, is right below i + 1
+pub set-next : (f : ℕ → ℕ) (xs : List ℕ) (i : ℕ) {v : ℕ} → ((k : ℕ) → k < i → getD xs k 0 ≡ f k) → i < length xs → v ≡ f i
+    → (k : ℕ) → k < i + 1 → getD (set xs i v) k 0 ≡ f k
+set-next f xs i {v} old b new k l = go (ℕ-discrete k i)
+  where
+    go : Dec (k ≡ i) → getD (set xs i v) k 0 ≡ f k
+    go (yes e) = rw e (getD-set-same xs i v 0 b ∙ new)
+    go (no d) = getD-set-other xs i k v 0 d ∙ old k (omega arith)
+
 -- the first i codes are cut, and the next starts at `at`
 pub record Cutting (ls starts starts' sizes sizes' : List ℕ) (at i : ℕ) : Type 0 where
   pub bound : i ≤ length ls
@@ -47,19 +56,9 @@ module _ {ls starts starts' sizes sizes' : List ℕ} {at i : ℕ} (cutting : Cut
         there = rw add-one (omega (arith, cutting .there, total-more ls i h));
         starts-long = length-set starts' i at ∙ cutting .starts-long;
         sizes-long = length-set sizes' i (getD ls i 0) ∙ cutting .sizes-long;
-        start = λ k l. stored starts' (total (take k ls)) at k l (omega (arith, cutting .starts-long))
-            (cutting .start k) (λ e. cutting .there ∙ ap (λ (j : ℕ). total (take j ls)) (sym e));
-        size = λ k l. stored sizes' (getD ls k 0) (getD ls i 0) k l (omega (arith, cutting .sizes-long))
-            (cutting .size k) (λ e. ap (λ (j : ℕ). getD ls j 0) (sym e));
+        start = set-next (λ (k : ℕ). total (take k ls)) starts' i (cutting .start) (omega (arith, cutting .starts-long)) (cutting .there);
+        size = set-next (λ (k : ℕ). getD ls k 0) sizes' i (cutting .size) (omega (arith, cutting .sizes-long)) refl;
       }
-    where
-      stored : (xs : List ℕ) (v a k : ℕ) → k < i + 1 → i < length xs → (k < i → getD xs k 0 ≡ v) → (k ≡ i → a ≡ v)
-          → getD (set xs i a) k 0 ≡ v
-      stored xs v a k l b old new = go (ℕ-discrete k i)
-        where
-          go : Dec (k ≡ i) → getD (set xs i a) k 0 ≡ v
-          go (yes e) = rw e (getD-set-same xs i a 0 b ∙ new e)
-          go (no d) = getD-set-other xs i k a 0 d ∙ old (omega arith)
 
   pub cut-end : length ls ≤ i → CutInto ls starts starts' sizes sizes'
   cut-end h =
