@@ -1,4 +1,4 @@
--- What the pass over the sorted faces takes and gives. Seam between the search for a face and the pass.
+-- What the search among the sorted faces gives to the pass: the lowest face that can follow.
 use mathlib.Core.Path.{_≡_}
 use mathlib.Core.Logic.{_≢_}
 use mathlib.Core.List.{List}

@@ -63,7 +63,7 @@ pub fn lowest_following(
     o: usize,
     head: usize,
 ) -> usize
-    requires { ⌜ InRun (now bands) (now starts) (now sizes) n × SortedFaces (now bands) (now starts) (now sizes) n (now sorted) × Row n (now after) × (a < 2 * n) × (head < 2 * n) ⌝ }
+    requires { ⌜ InRun (now bands) (now starts) (now sizes) n × SortedFaces (now bands) (now starts) (now sizes) n (now sorted) × Row n (now after) × (a < 2 * n) ⌝ }
     ensures { λ r. ⌜ LowestFollows (now (bands .entry)) (now (starts .entry)) (now (sizes .entry)) n (now (after .entry)) a o head r ⌝ }
 {
     let m = 2 * n;

@@ -2,7 +2,7 @@
 -- and the search among the sorted faces finds the join that is made, or none.
 use borrow.Author.Needs.{needs}
 use native.Mathlib.Omega.{arith}
-use Rattle.joins.proofs.Walks.{mirror-below, mirror-of-end}
+use Rattle.joins.proofs.Walks.{mirror-below}
 use Rattle.joins.proofs.Passing.{row-used}
 use Rattle.faces.proofs.Passing.{none-follows, one-follows}
 use Rattle.faces.proofs.pass.join_from.Statement.{statement}
@@ -34,8 +34,7 @@ lowest-following-requires : tie.Need-lowest-following-requires
 lowest-following-requires c κs =
     let m = c .before in
     let p = m .before .before .before .before .before .before .before .before .before .before .before .pre in
-    let h = mirror-of-end (m .before .end-from .ensures) (m .mirror-of2 .ensures .0) in
-    (p .0, p .1, p .3 .row, p .2, omega (arith, h, p .2))
+    (p .0, p .1, p .3 .row, p .2)
 
 mul-if2 : tie.Need-mul-if2
 mul-if2 c = search needs
