@@ -40,7 +40,7 @@ takes-ours s = by (is-same (last-two s) lineBreak)
     by (yes e) = ended (ends-so s e)
     by (no n) = not-ended (λ r e. n (ends-then s r e))
 
-file-only : {s r : List ℕ} → RibbonFile s r → ribbonOf s ≡ r
+pub file-only : {s r : List ℕ} → RibbonFile s r → ribbonOf s ≡ r
 file-only {s} (ended {r} e) = rw (passes (is-same (last-two s) lineBreak) (ends-then s r e)) (rest-then s r e)
 file-only {s} (not-ended n) =
     rw (refuses (is-same (last-two s) lineBreak) (λ e. n (take (length s - 2) s) (ends-so s e)))

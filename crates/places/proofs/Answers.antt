@@ -30,7 +30,7 @@ use Rattle.places.specs.Answers.{AreRecords, Fit, ChecksInto, false-list
 use Rattle.places.specs.Answers.{no-place, short-buffer, filled, Checks, less, recordsFrom, checkOutcome}
 use Rattle.places.proofs.Check.{misses-ours, missing-one}
 
-difference : (a b : ℕ) → Difference a b (less a b)
+pub difference : (a b : ℕ) → Difference a b (less a b)
 difference a b = by (is-le b a)
   where
     by : {t : Bool} → Decides (b ≤ a) t → Difference a b (pick t (pos (a - b)) (negsuc (b - a - 1)))
@@ -97,7 +97,7 @@ checks-ours run ls row records =
     (misses-ours turned (codesIn run ls) row) (is-lt (length records) (length ls)))
 
 -- Nothing else does: each part of the claim has one outcome, and each case is the one of ours.
-difference-one : {a b : ℕ} {d e : ℤ} → Difference a b d → Difference a b e → d ≡ e
+pub difference-one : {a b : ℕ} {d e : ℤ} → Difference a b d → Difference a b e → d ≡ e
 difference-one (more x) (more y) = ap pos (omega arith)
 difference-one (more x) (fewer y) = absurd (omega arith)
 difference-one (fewer x) (more y) = absurd (omega arith)

@@ -17,6 +17,7 @@ use Rattle.lists.specs.Outcome.{outcome}
 use Rattle.lists.specs.Runs.{codesIn, over}
 use Rattle.lists.specs.Fit.{allBands}
 use Rattle.greedy.specs.Layout.{ribbonFor}
+use Rattle.places.specs.Check.{none-missing, missing, missingOn}
 use Rattle.places.specs.Answers.{PlaceRecord, CheckOutcome, refused, missing-code, held, Checks, less, recordsFrom}
 use Rattle.places.specs.Answers.{checkOutcome}
 use Rattle.places.proofs.Answers.{checks-only}
@@ -28,11 +29,15 @@ Call = List ℕ → List ℕ → List ℕ → List PlaceRecord → CheckOutcome
 abbrev sevens : ℕ → List PlaceRecord
 sevens n = replicate n (record { code = 7; place = given-at 7 })
 
--- the list AB, with a given ribbon and so many records
+-- the list AB, cut by some lengths, with a given ribbon and so many records
+caught-by : (ls : List ℕ) (call : Call) (row : List ℕ) (n : ℕ) (look : CheckOutcome → ℕ)
+    → look (call (text "AB") ls row (sevens n)) ≢ look (checkOutcome (text "AB") ls row (sevens n)) → Checks call → ⊥
+caught-by ls call row n look d h = d (ap look (checks-only call h (text "AB") ls row (sevens n)))
+
 caught : (call : Call) (row : List ℕ) (n : ℕ) (look : CheckOutcome → ℕ)
     → look (call (text "AB") (2 ∷ []) row (sevens n)) ≢ look (checkOutcome (text "AB") (2 ∷ []) row (sevens n))
     → Checks call → ⊥
-caught call row n look d h = d (ap look (checks-only call h (text "AB") (2 ∷ []) row (sevens n)))
+caught = caught-by (2 ∷ [])
 
 -- what an answer is, as a number: a refusal's, 100 for missing, 200 for held and 300 for held below zero
 abbrev kind : CheckOutcome → ℕ
@@ -88,6 +93,27 @@ shortFirst run ls row records =
 pub not-short-first : Checks shortFirst → ⊥
 unfolding turned
 not-short-first = caught shortFirst [] 0 kind (λ e. omega arith)
+
+-- 15 before 12; on a length of 3 for AB, and 16,385 As
+abbrev longFirst : Call
+longFirst run ls row records =
+    pick (ltb 16384 (length row)) (outcome (refused (whole longRibbon)) records) (checkOutcome run ls row records)
+
+pub not-long-first : Checks longFirst → ⊥
+unfolding turned
+not-long-first = caught-by (3 ∷ []) longFirst (replicate 16385 65) 1 kind (λ e. omega arith)
+
+-- missing before 8; on a space
+abbrev missingFirst : Call
+missingFirst run ls row records =
+    elim (missingOn turned (codesIn run ls) row) [
+      | missing k ↦ outcome (missing-code k) records
+      | none-missing ↦ checkOutcome run ls row records
+    ]
+
+pub not-missing-first : Checks missingFirst → ⊥
+unfolding turned
+not-missing-first = caught missingFirst (text " ") 1 kind (λ e. omega arith)
 
 -- 8 before 15; on 16,385 bytes that are no bands
 abbrev colourFirst : Call

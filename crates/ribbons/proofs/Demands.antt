@@ -27,6 +27,8 @@ use Rattle.sheets.proofs.Room.{accepts as sheet-accepts}
 use Rattle.sheets.proofs.ReadBack.{reads-back}
 use Rattle.places.proofs.Check.{misses-ours, misses-only}
 use Rattle.places.proofs.Answers.{checks-ours, checks-only}
+use Rattle.ribbons.proofs.Prints.{ribbon-program-ours, ribbon-program-only, sheet-program-ours, sheet-program-only}
+use Rattle.ribbons.proofs.Prints.{check-program-ours, check-program-only}
 use Rattle.ribbons.specs.Demands.{Pinned, NoFreedom, Demand3, Demands}
 
 pinned : Pinned
@@ -48,6 +50,9 @@ pinned =
       checking = checks-ours;
       quoting = writes-ours;
       sheets = sheets-ours;
+      ribbon-program = ribbon-program-ours;
+      sheet-program = sheet-program-ours;
+      check-program = check-program-ours;
       starred = starred-lay;
     }
 
@@ -70,6 +75,9 @@ no-freedom =
       checking = checks-only;
       quoting = writes-only;
       sheets = sheets-only;
+      ribbon-program = ribbon-program-only;
+      sheet-program = sheet-program-only;
+      check-program = check-program-only;
     }
 
 pub demand-3 : Demand3

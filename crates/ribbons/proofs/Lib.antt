@@ -1,4 +1,6 @@
 -- The demands, proved; and what the programs write.
+pub mod Prints
+pub mod WrongPrograms
 pub mod Demands
 pub mod Refused
 pub mod Outputs

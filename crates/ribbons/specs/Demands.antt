@@ -35,6 +35,8 @@ use Rattle.sheets.specs.Answers.{SheetOutcome, written, Sheets, sheetFor, sheet
 use Rattle.sheets.specs.ReadBack.{ReadsBack}
 use Rattle.places.specs.Check.{Missing, Misses, missingOn}
 use Rattle.places.specs.Answers.{PlaceRecord, CheckOutcome, Checks, checkOutcome}
+use Rattle.ribbons.specs.Programs.{ribbonOutput, sheetOutput, checkOutput}
+use Rattle.ribbons.specs.Prints.{RibbonProgram, SheetProgram, CheckProgram}
 
 -- Each definition meets the claim that pins it.
 pub record Pinned : Type 0 where
@@ -54,6 +56,9 @@ pub record Pinned : Type 0 where
   pub checking : Checks checkOutcome
   pub quoting : Writes fieldText
   pub sheets : Sheets sheetOutcome
+  pub ribbon-program : RibbonProgram ribbonOutput
+  pub sheet-program : SheetProgram sheetOutput
+  pub check-program : CheckProgram checkOutput
   -- document 01's starred ribbons
   pub starred : Starred
 
@@ -84,6 +89,12 @@ pub record NoFreedom : Type 0 where
   pub sheets : (call : List ℕ → List ℕ → List ℕ → List ℕ → List ℕ → SheetOutcome) → Sheets call
       → (run ls name-run name-ls buffer : List ℕ)
       → call run ls name-run name-ls buffer ≡ sheetOutcome run ls name-run name-ls buffer
+  pub ribbon-program : (program : List ℕ → List ℕ) → RibbonProgram program → (list : List ℕ)
+      → program list ≡ ribbonOutput list
+  pub sheet-program : (program : List ℕ → List ℕ) → SheetProgram program → (list : List ℕ)
+      → program list ≡ sheetOutput list
+  pub check-program : (program : List ℕ → List ℕ → List ℕ) → CheckProgram program → (list file : List ℕ)
+      → program list file ≡ checkOutput list file
 
 -- Demand 3, one claim over all lists and rivals. If laying out a list answers with saved, then for whatever row somebody
 -- else holds, of any length, on which every code of the list stands, the lengths of the kept codes, added up, are at most

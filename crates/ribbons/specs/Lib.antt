@@ -1,3 +1,4 @@
 -- The demands, collected.
 pub mod Demands
 pub mod Programs
+pub mod Prints
