@@ -21,7 +21,7 @@ use Rattle.lists.specs.Fit.{allBands}
 use Rattle.lists.proofs.Rules.{all-bands}
 use Rattle.grammar.specs.Files.{comma, lineBreak, Orders, orders, bad}
 use Rattle.grammar.specs.Grammar as g
-use Rattle.grammar.specs.RibbonFile.{RibbonFile, ribbonOf}
+use Rattle.grammar.specs.RibbonFile.{ribbonOf}
 use Rattle.grammar.proofs.Reading.{reads-ours}
 use Rattle.grammar.proofs.Only.{reads-only}
 use Rattle.grammar.proofs.Exactly.{Accepted, Kind, unfit, tells, kind}
@@ -32,7 +32,6 @@ use Rattle.places.specs.Check.{Missing, none-missing, missing, missingOn, IsMis
 use Rattle.places.specs.Answers.{Difference, less}
 use Rattle.places.proofs.Check.{misses-ours, missing-one}
 use Rattle.places.proofs.Answers.{difference, difference-one}
-use Rattle.sheets.specs.Decimal.{Digits, decimal}
 use Rattle.sheets.specs.Sheet.{SheetFor, sheetText}
 use Rattle.sheets.proofs.Decimal.{digits-ours, digits-one}
 use Rattle.sheets.proofs.Sheet.{sheet-ours, sheet-only}
