@@ -11,4 +11,5 @@ pub mod Written
 pub mod Comparing
 pub mod Trying
 pub mod Seeking
+pub mod Searching
 pub mod Impostors

@@ -35,7 +35,7 @@ module _ {c s : List ℕ} {i : ℕ} where
         start = length-take-le i s l;
       }
 
-is-standing-at : (c : List ℕ) {s r : List ℕ} {i : ℕ} → i ≤ length s → drop i s ≡ r
+pub is-standing-at : (c : List ℕ) {s r : List ℕ} {i : ℕ} → i ≤ length s → drop i s ≡ r
     → Decides (StandsAt c s i) (begins c r)
 is-standing-at c {s} {r} {i} l e =
     decides-via
@@ -137,9 +137,12 @@ module _ {turn : List ℕ → List ℕ} {k : ℕ} {c s : List ℕ} where
   place-one (is-nowhere n) (is-turned m x g o) = absurd (n _ m .not-turned g)
   place-one (is-nowhere n) (is-nowhere o) = refl
 
+pub place-is : {turn : List ℕ → List ℕ} {c s : List ℕ} {p : Place} → IsPlace turn 0 c s p → p ≡ placeOf turn c s
+place-is {turn} {c} {s} h = place-one h (finds-ours turn c s)
+
 pub finds-only : {turn : List ℕ → List ℕ} (find : List ℕ → List ℕ → Place) → Finds turn find → (c s : List ℕ)
     → find c s ≡ placeOf turn c s
-finds-only {turn} find h c s = place-one (h c s) (finds-ours turn c s)
+finds-only find h c s = place-is (h c s)
 
 -- A word has a place exactly if it stands some way.
 place-found : {turn : List ℕ → List ℕ} {c s : List ℕ} {p : Place} → IsPlace turn 0 c s p

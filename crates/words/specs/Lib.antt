@@ -9,3 +9,4 @@ pub mod Stand
 pub mod Overlap
 pub mod Place
 pub mod Texts
+pub mod Answers

@@ -5,6 +5,12 @@ use mathlib.Core.List.{List, [], _∷_}
 use Prim.Native.Nat.{ℕ, suc, _≤_, _<_}
 use Rattle.words.specs.Stand.{StandsAt, begins}
 
+-- the smallest start below a limit at which c stands on s; the limit where there is none
+pub record FirstStart (c s : List ℕ) (limit i : ℕ) : Type 0 where
+  pub within : i ≤ limit
+  pub stands : i < limit → StandsAt c s i
+  pub none-before : (j : ℕ) → j < i → StandsAt c s j → ⊥
+
 -- as given at a start, turned at a start, or no place
 pub data Place : Type 0 where
   given-at : ℕ → Place
