@@ -25,7 +25,7 @@ fn lengths_ok(lengths: &[u16]) -> bool
 }
 
 // The lengths added up. There are too few of them for the sum to overflow.
-fn sum_of(lengths: &[u16]) -> usize
+pub fn sum_of(lengths: &[u16]) -> usize
     requires { ⌜ length (now lengths) ≤ 128 ⌝ }
     ensures { λ r. ⌜ r ≡ total (now (lengths .entry)) ⌝ }
 {

@@ -1,8 +1,11 @@
 // Lists of codes and of names as calls hand them over, and the rules for them.
 mod codes;
+mod names;
 mod texts;
 
 pub use codes::list_ok;
+pub use names::is_taken;
+pub use names::names_ok;
 pub use texts::all_bands;
 pub use texts::name_ok;
 

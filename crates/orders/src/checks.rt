@@ -3,7 +3,6 @@ ghost use mathlib.Core.Path.{_≡_};
 ghost use Prim.Native.Nat.{_+_, _-_, _≤_};
 ghost use lib.ListN.{length, take};
 ghost use Rattle.lists.specs.Runs.{codesIn, total};
-ghost use Rattle.lists.specs.Fit.{isIn};
 ghost use Rattle.grammar.specs.Orders.{headFault, entryFault};
 ghost use Rattle.rows.specs.Scans.{partOf};
 ghost use Rattle.orders.specs.Gathering.{fieldsFault, ChecksRow};
@@ -111,29 +110,11 @@ fn entry_fault(name: &[u8], code: &[u8], names: &[u8], sizes: &[u16]) -> u8
     if !lists::all_bands(code) {
         return 8;
     }
-    if is_taken(name, names, sizes) {
+    if lists::is_taken(name, names, sizes) {
         return 9;
     }
     if 128 <= sizes.len() {
         return 10;
     }
     0
-}
-
-// One of the names in a run has this name.
-fn is_taken(name: &[u8], names: &[u8], sizes: &[u16]) -> bool
-    requires { ⌜ total (now sizes) ≤ length (now names) ⌝ }
-    ensures { λ r. ⌜ r ≡ isIn (now (name .entry)) (codesIn (now (names .entry)) (now (sizes .entry))) ⌝ }
-{
-    let mut from: usize = 0;
-    let mut k = 0;
-    while k < sizes.len() {
-        let to = from + sizes[k] as usize;
-        if words::same(name, &names[from..to]) {
-            return true;
-        }
-        from = to;
-        k += 1;
-    }
-    false
 }

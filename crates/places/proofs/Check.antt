@@ -49,7 +49,7 @@ misses-ours turn cs row = from (searched turn row 0 cs)
     from (first k n e l x f) =
         subst (λ (m : ℕ). IsMissing turn cs row (missing m)) {x = k} {y = n} (omega arith) (lowest l x f)
 
-stands-at : (turn : List ℕ → List ℕ) (cs : List (List ℕ)) (row : List ℕ) (k : ℕ) → k < length cs → AllStand turn cs row
+pub stands-at : (turn : List ℕ → List ℕ) (cs : List (List ℕ)) (row : List ℕ) (k : ℕ) → k < length cs → AllStand turn cs row
     → StandsSomeWay turn (codeAt cs k) row
 stands-at turn cs row k l a = each-in (λ c. StandsSomeWay turn c row) cs (codeAt cs k) a (code-in cs k l)
 

@@ -37,11 +37,10 @@ use Rattle.grammar.proofs.Only.{reads-only}
 use Rattle.orders.proofs.Calls.{handed}
 use Rattle.greedy.specs.Layout.{ribbonFor}
 use Rattle.layout.specs.Calls.{LaysRibbon}
-use Rattle.layout.specs.declared.Laid.{Laid}
+use Rattle.layout.proofs.Calls.{size-is, left-is}
 use Rattle.layout.specs.declared.Laid.the-variants as laid
 use Rattle.lists.specs.declared.Refusal as declared
-use Rattle.greedy.proofs.Claims.{lays-only}
-use Rattle.greedy.proofs.Room.{ribbon-at-most, accepts}
+use Rattle.greedy.proofs.Room.{ribbon-at-most}
 use Rattle.ribbons.specs.Programs.{refusedLine, ribbonOutput, WritesOver}
 
 pub writes-over : {text before after : List ℕ} {r : ℕ} → r ≡ length text → after ≡ over text before
@@ -51,46 +50,27 @@ writes-over {text} {before} {after} {r} e f =
     omega (arith, ap length f, length-append text (drop (length text) before)) in
     record { long = e; written = f; counts = (l, sym (length-take-le r after l)) }
 
--- what is told of an answer is told of the case that it is
-pub told : {run ls before after : List ℕ} {r x : Laid} → LaysRibbon run ls before after r → r ≡ x → LaysRibbon run ls before after x
-told {run} {ls} {before} {after} p e = subst (LaysRibbon run ls before after) e p
-
 -- A ribbon that is laid out fits, and CR LF behind it makes the line.
-module _ (run ls before : List ℕ) {after : List ℕ} (ok : listOk run ls ≡ true) (room : 8194 ≤ length before) where
-  pub never-refused : {r : declared.Refusal} → LaysRibbon run ls before after (laid.Refused r) → ⊥
-  never-refused {r} p =
-      let e = p .gives .answer ∙ accepts run ls before ok (omega (arith, ribbon-at-most run ls ok)) in
-      let z : _≡_ {A = ℕ} 0 1 = cc in
-      omega arith
+module _ (run ls before : List ℕ) {after : List ℕ} (ok : listOk run ls ≡ true) (room : 8194 ≤ length before) {n saved : ℕ}
+    (p : LaysRibbon run ls before after (laid.Ribbon n saved)) where
+  pub line-fits : n + 2 ≤ length after
+  line-fits =
+      omega (
+        arith,
+        ribbon-at-most run ls ok,
+        size-is p,
+        ap length (left-is p),
+        length-append (ribbonFor turned (codesIn run ls)) (drop (length (ribbonFor turned (codesIn run ls))) before),
+        length-drop (length (ribbonFor turned (codesIn run ls))) before,
+      )
 
-  module _ {n saved : ℕ} (p : LaysRibbon run ls before after (laid.Ribbon n saved)) where
-    ribbon-is : p .means .ribbon ≡ ribbonFor turned (codesIn run ls)
-    ribbon-is = lays-only turned (p .means .by-rule) .0
-
-    size-is : n ≡ length (ribbonFor turned (codesIn run ls))
-    size-is = sym (p .means .is-long) ∙ ap length ribbon-is
-
-    left-is : after ≡ over (ribbonFor turned (codesIn run ls)) before
-    left-is = p .means .written ∙ ap (λ (r : List ℕ). over r before) ribbon-is
-
-    pub line-fits : n + 2 ≤ length after
-    line-fits =
-        omega (
-          arith,
-          ribbon-at-most run ls ok,
-          size-is,
-          ap length left-is,
-          length-append (ribbonFor turned (codesIn run ls)) (drop (length (ribbonFor turned (codesIn run ls))) before),
-          length-drop (length (ribbonFor turned (codesIn run ls))) before,
-        )
-
-    pub line-written : {new : List ℕ} {r : ℕ} → Written after n lineBreak new r
-        → WritesOver (ribbonFor turned (codesIn run ls) ++ lineBreak) before new r
-    line-written w =
-        let v : Written before 0 (ribbonFor turned (codesIn run ls)) after n =
-        rw (left-is, size-is) (over-written (ribbonFor turned (codesIn run ls)) before) in
-        let u = written-over (both-written (omega arith) v w) in
-        writes-over (u .0) (u .1)
+  pub line-written : {new : List ℕ} {r : ℕ} → Written after n lineBreak new r
+      → WritesOver (ribbonFor turned (codesIn run ls) ++ lineBreak) before new r
+  line-written w =
+      let v : Written before 0 (ribbonFor turned (codesIn run ls)) after n =
+      rw (left-is p, size-is p) (over-written (ribbonFor turned (codesIn run ls)) before) in
+      let u = written-over (both-written (omega arith) v w) in
+      writes-over (u .0) (u .1)
 
 -- the program's output for what a file is read as
 outputFor : files.Orders → List ℕ

@@ -75,7 +75,7 @@ module _ (run ls name-run name-ls : List ℕ) where
 
   module _ (buffer : List ℕ) where
     -- ours by its tests: of the list with its names, of being stuck, and of the buffer
-    abbrev byTests : Bool → Bool → Bool → SheetOutcome
+    abbrev pub byTests : Bool → Bool → Bool → SheetOutcome
     byTests false-one st short =
         let f = firstOf (when false-one falseList) (firstOf (when st stuck) (when short shortBuffer)) in
         elim (eqb f 0) [
@@ -98,7 +98,7 @@ module _ (run ls name-run name-ls : List ℕ) where
     meets (no fit) (no l) = filled fit (sheeted-ours fit) (not-lt l)
 
     -- Nothing else does: each case is the one of ours.
-    if-tests : {b short : Bool} → bad ≡ b → ltb (length buffer) (length sheet) ≡ short
+    pub if-tests : {b short : Bool} → bad ≡ b → ltb (length buffer) (length sheet) ≡ short
         → sheetOutcome run ls name-run name-ls buffer ≡ byTests b false short
     if-tests p q = as-tested ∙ ap₂ (λ (b s : Bool). byTests b false s) p q
 

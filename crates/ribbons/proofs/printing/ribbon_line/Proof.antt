@@ -1,5 +1,6 @@
 -- `printing::ribbon_line`: a fit list is laid out, and CR LF behind its ribbon makes the line.
-use Rattle.ribbons.proofs.Outputs.{told, never-refused, line-fits, line-written}
+use Rattle.layout.proofs.Calls.{told, never-refused}
+use Rattle.ribbons.proofs.Outputs.{line-fits, line-written}
 use borrow.Author.Needs.{needs}
 use Rattle.ribbons.proofs.printing.ribbon_line.Statement.{statement}
 use Rattle.ribbons.proofs.printing.ribbon_line.Tie as tie
@@ -33,7 +34,7 @@ same-length c = search needs
 returns : tie.Need-returns
 returns c =
     let k = c .before .before .before .before .before .before .before .before .before .before .before .before .before .before in
-    absurd (never-refused (k .args .bands .now) (k .args .lengths .now) (k .args .out .now) (k .pre .0) (k .pre .1) (told (c .before .before .before .before .before .before .before .before .before .lay-ribbon .ensures) (c .before .before .before .before .before .laid .given .1)))
+    absurd (never-refused (k .args .bands .now) (k .args .lengths .now) (k .args .out .now) (k .pre .0) (search needs) (told (c .before .before .before .before .before .before .before .before .before .lay-ribbon .ensures) (c .before .before .before .before .before .laid .given .1)))
 
 same-length-2 : tie.Need-same-length-2
 same-length-2 c = search needs

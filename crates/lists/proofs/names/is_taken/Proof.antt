@@ -4,18 +4,21 @@ use Prim.Native.Nat.{_-_}
 use native.Mathlib.Omega.{arith}
 use lib.ListN.{length}
 use borrow.Author.Needs.{needs}
-use Rattle.orders.proofs.Filing.{Looking, looking-none, not-there, word-fits, there, looking-on}
-use Rattle.orders.proofs.checks.is_taken.Statement.{statement}
-use Rattle.orders.proofs.checks.is_taken.Tie as tie
+use Rattle.lists.specs.Fit.{isIn}
+use Rattle.lists.proofs.Passing.{Passing, passing-none, passed-all, word-fits, is-there, not-next}
+use Rattle.lists.proofs.names.is_taken.Statement.{statement}
+use Rattle.lists.proofs.names.is_taken.Tie as tie
 
 abbrev Inv-loop : tie.InvT-loop
-Inv-loop name names sizes from₀ k₀ from k = Looking name names sizes from k
+Inv-loop name names sizes from₀ k₀ from k = Passing (isIn name) names sizes from k
 
 abbrev μ-loop : tie.MeasureT-loop
 μ-loop name names sizes from₀ k₀ from k = length sizes - k
 
 loop-holds : tie.Need-loop-holds Inv-loop μ-loop
-loop-holds c = looking-none _ _ _ (c .before .before .before .pre)
+loop-holds c =
+    let w = c .before .before .before in
+    passing-none (isIn (w .args .name .now)) (w .args .names .now) (w .args .sizes .now) (w .pre)
 
 mul-to : tie.Need-mul-to Inv-loop μ-loop
 mul-to c = search needs
@@ -27,7 +30,7 @@ cast-to : tie.Need-cast-to Inv-loop μ-loop
 cast-to c = omega (arith, c .shared-slice-known4 .given (c .before .before .loop .k))
 
 add-to : tie.Need-add-to Inv-loop μ-loop
-add-to c = omega (arith, word-fits (c .before .before .loop .inv) (c .before .loop-test .taken))
+add-to c = omega (arith, word-fits _ (c .before .before .loop .inv) (c .before .loop-test .taken))
 
 sub-same : tie.Need-sub-same Inv-loop μ-loop
 sub-same c = search needs
@@ -36,7 +39,7 @@ part-same-start : tie.Need-part-same-start Inv-loop μ-loop
 part-same-start c = search needs
 
 part-same-end : tie.Need-part-same-end Inv-loop μ-loop
-part-same-end c = word-fits (c .before .before .loop .inv) (c .before .loop-test .taken)
+part-same-end c = word-fits _ (c .before .before .loop .inv) (c .before .loop-test .taken)
 
 same-requires : tie.Need-same-requires Inv-loop μ-loop
 same-requires c κs = tt
@@ -44,7 +47,7 @@ same-requires c κs = tt
 returns : tie.Need-returns Inv-loop μ-loop
 returns c =
     let t = c .before .before .before .before in
-    sym (there (t .before .loop .inv) (t .loop-test .taken) (c .before .same .ensures) (c .if1 .taken))
+    sym (is-there (t .before .loop .inv) (t .loop-test .taken) (c .before .same .ensures) (c .if1 .taken))
 
 add-k : tie.Need-add-k Inv-loop μ-loop
 add-k c = search needs
@@ -55,10 +58,10 @@ loop-less c = search needs
 loop-again : tie.Need-loop-again Inv-loop μ-loop
 loop-again c =
     let t = c .before .before .before .before in
-    looking-on (t .before .loop .inv) (t .loop-test .taken) (c .before .same .ensures) (c .if1 .left)
+    not-next (t .before .loop .inv) (t .loop-test .taken) (c .before .same .ensures) (c .if1 .left)
 
 returns-2 : tie.Need-returns-2 Inv-loop μ-loop
-returns-2 c = sym (not-there (c .before .loop .inv) (c .loop-test .left))
+returns-2 c = sym (passed-all _ (c .before .loop .inv) (c .loop-test .left))
 
 pub is-taken-spec : {M : Type 1} → statement M
 is-taken-spec =
