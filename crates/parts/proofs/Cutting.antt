@@ -70,7 +70,7 @@ module _ {ls starts starts' sizes sizes' : List ℕ} {at i : ℕ} (cutting : Cut
       }
 
 -- The parts that are cut are the codes of the run.
-code-at : (run ls : List ℕ) (k : ℕ) → k < length ls → codeAt (codesIn run ls) k ≡ take (getD ls k 0) (drop (total (take k ls)) run)
+pub code-at : (run ls : List ℕ) (k : ℕ) → k < length ls → codeAt (codesIn run ls) k ≡ take (getD ls k 0) (drop (total (take k ls)) run)
 code-at run [] k h = absurd (omega arith)
 code-at run (n ∷ ls) zero h = refl
 code-at run (n ∷ ls) (suc k) h =

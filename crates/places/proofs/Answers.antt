@@ -130,7 +130,7 @@ module _ (run ls row : List ℕ) (records : List PlaceRecord) where
       if-tests false false true short m (refuses (is-false-codes run ls) (F .list))
       (refuses (is-lt 16384 (length row)) (λ h. omega (arith, F .long))) (passes (all-bands row) (F .bands)) d e
 
-  into-only : {o : CheckOutcome} → ChecksInto run ls row records o → o ≡ checkOutcome run ls row records
+  pub into-only : {o : CheckOutcome} → ChecksInto run ls row records o → o ≡ checkOutcome run ls row records
   into-only (false-list f) = sym (if-tests true _ _ _ _ (passes (is-false-codes run ls) f) refl refl refl refl)
   into-only (long-ribbon fit l) =
       let no-list = refuses (is-false-codes run ls) fit in

@@ -3,3 +3,6 @@ pub mod Check
 pub mod Answers
 pub mod Impostors
 pub mod WrongCalls
+pub mod Signed
+pub mod Finding
+pub mod Calls

@@ -1,1 +1,143 @@
-// Places of all codes on a row, and checking a supplied ribbon. So far the definitions, and that the check is exact.
+// Places of all codes on a row, and checking a supplied ribbon.
+ghost use mathlib.Core.Path.{_≡_};
+ghost use mathlib.Core.Bool.{true};
+ghost use Prim.Native.Nat.{_≤_};
+ghost use lib.ListN.{length};
+ghost use Rattle.lists.specs.Fit.{listOk};
+ghost use Rattle.lists.specs.Refusals.{whole};
+ghost use Rattle.places.specs.Answers as a;
+ghost use Rattle.places.specs.Calls.{FindsPlaces, ChecksInRoom, ChecksAlone, answerOf};
+
+mod records; // the record of a code
+mod supplied; // refusals of what is supplied, and the difference
+
+use lists::Refusal;
+use records::is_nowhere;
+use records::place_of;
+use records::record_of;
+use supplied::computed_length;
+use supplied::difference;
+use supplied::supplied_fault;
+
+// A way of a code, with the start at which it stands.
+pub enum Way {
+    Given(u32),
+    Turned(u32),
+}
+
+// A place record: the code's number, and its way with the start.
+pub struct Place {
+    pub code: u32,
+    pub way: Way,
+}
+
+// Held with the supplied length minus the computed one; missing the code of a number; or the refusal, 12, 15, 8, 14 or 13.
+pub enum Checked {
+    Refused(Refusal),
+    Missing(u32),
+    Held(i32),
+}
+
+// The answer of a check, and the records that are due: so many, at the front of a row.
+pub struct Findings {
+    pub answer: Checked,
+    pub due: usize,
+    pub records: [Place; 128],
+}
+
+// The records of the codes that have a place, so many, at the front of a row.
+pub struct Sought {
+    pub count: usize,
+    pub records: [Place; 128],
+}
+
+// A row of records for the places of any list.
+fn blank() -> [Place; 128]
+    ensures { λ r. ⌜ length r ≡ 128 ⌝ }
+{
+    [Place {
+        code: 0,
+        way: Way::Given(0),
+    }; 128]
+}
+
+// The places of the codes of a fit list, in list order, until one has none.
+pub fn find_places(bands: &[u8], lengths: &[u16], ribbon: &[u8]) -> Sought
+    requires { ⌜ (listOk (now bands) (now lengths) ≡ true) × (length (now ribbon) ≤ 16384) ⌝ }
+    ensures { λ r. ⌜ FindsPlaces (now (bands .entry)) (now (lengths .entry)) (now (ribbon .entry)) (r .count) (r .records) ⌝ }
+{
+    let mut records = blank();
+    let mut at = 0;
+    let mut i = 0;
+    while i < lengths.len() {
+        let size = lengths[i] as usize;
+        let place = place_of(bands, at, size, ribbon);
+        if is_nowhere(place) {
+            return Sought {
+                count: i,
+                records: records,
+            };
+        }
+        records[i] = record_of(place, i);
+        at += size;
+        i += 1;
+    }
+    Sought {
+        count: i,
+        records: records,
+    }
+}
+
+// An answer with no record due.
+fn without_records(answer: Checked) -> Findings
+    ensures { λ r. ⌜ (r .answer ≡ answer) × (r .due ≡ 0) ⌝ }
+{
+    let records = blank();
+    Findings {
+        answer: answer,
+        due: 0,
+        records: records,
+    }
+}
+
+// A refusal of the whole input.
+fn refused(number: u8) -> Findings
+    ensures { λ r. ⌜ (answerOf (r .answer) ≡ a.refused (whole number)) × (r .due ≡ 0) ⌝ }
+{
+    without_records(Checked::Refused(Refusal {
+        number: number,
+        row: 0,
+    }))
+}
+
+// Checks a supplied ribbon, as check_ribbon does where so many records are lent, and hands the records back by value.
+pub fn check_places(bands: &[u8], lengths: &[u16], ribbon: &[u8], room: usize) -> Findings
+    ensures { λ r. ⌜ ChecksInRoom (now (bands .entry)) (now (lengths .entry)) (now (ribbon .entry)) room (r .answer) (r .due) (r .records) ⌝ }
+{
+    let fault = supplied_fault(bands, lengths, ribbon);
+    if fault != 0 {
+        return refused(fault);
+    }
+    let sought = find_places(bands, lengths, ribbon);
+    let count = sought.count;
+    if count < lengths.len() {
+        return without_records(Checked::Missing(count as u32));
+    }
+    if room < count {
+        return refused(13);
+    }
+    let records = sought.records;
+    Findings {
+        answer: Checked::Held(difference(ribbon.len(), computed_length(bands, lengths))),
+        due: count,
+        records: records,
+    }
+}
+
+// Checks a supplied ribbon, as check_ribbon does where room is enough, for callers that want no records.
+pub fn check_only(bands: &[u8], lengths: &[u16], ribbon: &[u8]) -> Checked
+    ensures { λ r. ⌜ ChecksAlone (now (bands .entry)) (now (lengths .entry)) (now (ribbon .entry)) r ⌝ }
+{
+    let findings = check_places(bands, lengths, ribbon, 128);
+    findings.answer
+}

@@ -1,0 +1,15 @@
+-- `refused`: the refusal has row 0, and no record is due.
+use mathlib.Core.Path.{ap}
+use borrow.Author.Needs.{needs}
+use Rattle.places.specs.Calls.{answerOf}
+use Rattle.places.proofs.refused.Statement.{statement}
+use Rattle.places.proofs.refused.Tie as tie
+
+without-records-requires : tie.Need-without-records-requires
+without-records-requires c κs = search needs
+
+returns : tie.Need-returns
+returns c = (ap answerOf (c .without-records .ensures .0), c .without-records .ensures .1)
+
+pub refused-spec : {M : Type 1} → statement M
+refused-spec = tie.close (tie.spec without-records-requires returns)
