@@ -2,4 +2,5 @@
 pub mod Decimal
 pub mod Sheet
 pub mod Answers
+pub mod Placed
 pub mod ReadBack

@@ -1,5 +1,10 @@
-// The sheet: one row for each listed code, with its name, way, start and bands. So far the definitions, and how a number is
-// written.
+// The sheet: one row for each listed code, with its name, way, start and bands.
+mod fields;
 mod numbers;
+mod rows;
+mod sizes;
 
 pub use numbers::put_decimal;
+pub use rows::put_heading;
+pub use rows::put_rows;
+pub use sizes::sheet_size;

@@ -1,4 +1,5 @@
 // Numbers written in decimal.
+ghost use mathlib.Core.Path.{_≡_};
 ghost use Prim.Native.Nat.{_+_, _≤_};
 ghost use lib.ListN.{length};
 ghost use Rattle.words.specs.Written.{Written};
@@ -17,4 +18,17 @@ pub fn put_decimal(n: u32, row: &mut [u8], at: usize) -> usize
     let last = put_decimal(n / 10, row, at);
     row[last] = (48 + n % 10) as u8;
     last + 1
+}
+
+// How many digits n has.
+pub fn decimal_size(n: u32) -> usize
+    ensures { λ r. ⌜ r ≡ length (decimal n) ⌝ }
+{
+    let mut left = n;
+    let mut size: usize = 1;
+    while 10 <= left {
+        left = left / 10;
+        size += 1;
+    }
+    size
 }
