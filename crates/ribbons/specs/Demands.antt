@@ -4,6 +4,7 @@ use mathlib.Core.Path.{_≡_}
 use mathlib.Core.Bool.{Bool, true}
 use mathlib.Core.List.{List}
 use Prim.Native.Nat.{ℕ, _+_, _*_, _≤_}
+use lib.IntN.{ℤ}
 use lib.ListN.{length}
 use Rattle.words.specs.Lists.{Each}
 use Rattle.words.specs.Turn.{turned, Turning, Turns}
@@ -33,8 +34,13 @@ use Rattle.layout.specs.declared.Laid.the-variants.{Ribbon}
 use Rattle.sheets.specs.Sheet.{SheetFor}
 use Rattle.sheets.specs.Answers.{SheetOutcome, written, Sheets, sheetFor, sheetOutcome}
 use Rattle.sheets.specs.ReadBack.{ReadsBack}
-use Rattle.places.specs.Check.{Missing, Misses, missingOn}
-use Rattle.places.specs.Answers.{PlaceRecord, CheckOutcome, Checks, checkOutcome}
+use Rattle.places.specs.Check.{Misses, missingOn}
+use Rattle.places.specs.Check as check
+use Rattle.places.specs.Answers.{PlaceRecord, CheckOutcome, Fit, Checks, checkOutcome}
+use Rattle.places.specs.Calls.{ChecksRibbon}
+use Rattle.places.specs.declared.Place as declared
+use Rattle.places.specs.declared.Checked.{Checked}
+use Rattle.places.specs.declared.Checked.the-variants.{Missing, Held}
 use Rattle.ribbons.specs.Programs.{ribbonOutput, sheetOutput, checkOutput}
 use Rattle.ribbons.specs.Prints.{RibbonProgram, SheetProgram, CheckProgram}
 
@@ -78,8 +84,8 @@ pub record NoFreedom : Type 0 where
       → make n w ≡ layoutOf n w .joins
   pub ribbons : (cs : List (List ℕ)) (ribbon : List ℕ) (saved : ℕ) → Lays Chosen turned cs ribbon saved
       → (ribbon ≡ ribbonFor turned cs) × (saved ≡ savedBy turned cs)
-  pub searching : (check : List (List ℕ) → List ℕ → Missing) → Misses turned check → (cs : List (List ℕ)) (row : List ℕ)
-      → check cs row ≡ missingOn turned cs row
+  pub searching : (search : List (List ℕ) → List ℕ → check.Missing) → Misses turned search → (cs : List (List ℕ)) (row : List ℕ)
+      → search cs row ≡ missingOn turned cs row
   pub reading : (call : List ℕ → Lent → ReadOutcome) → Serves call → (s : List ℕ) (b : Lent) → call s b ≡ readOutcome s b
   pub laying : (call : List ℕ → List ℕ → List ℕ → LayOutcome) → LaysOut call → (run ls buffer : List ℕ)
       → call run ls buffer ≡ layOutcome run ls buffer
@@ -112,6 +118,17 @@ Demand3OfCall =
     → (rival : List ℕ) → AllStand turned (codesIn run ls) rival
     → total (lengths (kept turned (codesIn run ls))) ≤ length rival + 2 * saved
 
+-- Demand 2 of the check itself: it answers held exactly when every code stands on a ribbon that is not refused, where there
+-- is room for the records.
+pub record PassesExactly : Type 0 where
+  pub held-stands : (run ls row : List ℕ) (before after : List declared.Place) (d : ℤ)
+      → ChecksRibbon run ls row before after (Held d) → AllStand turned (codesIn run ls) row
+  pub missing-stands-not : (run ls row : List ℕ) (before after : List declared.Place) (k : ℕ)
+      → ChecksRibbon run ls row before after (Missing k) → AllStand turned (codesIn run ls) row → ⊥
+  pub stands-held : (run ls row : List ℕ) (before after : List declared.Place) (r : Checked) → Fit run ls row
+      → AllStand turned (codesIn run ls) row → length ls ≤ length before → ChecksRibbon run ls row before after r
+      → (d : ℤ) × (r ≡ Held d)
+
 pub record Demands : Type 0 where
   -- 1. Nothing unfit is accepted, and what is refused leaves lent memory untouched: `reading`, `laying`, `checking` and
   -- `sheets` of the records above. A fit list is accepted, into a buffer of 8,192 bytes, its sheet into one of 16,534; none
@@ -133,6 +150,7 @@ pub record Demands : Type 0 where
   pub all-stand : (cs : List (List ℕ)) → AllStand turned cs (ribbonFor turned cs)
   pub adds-up : (cs : List (List ℕ))
       → length (ribbonFor turned cs) + savedBy turned cs ≡ total (lengths (kept turned cs))
+  pub passes-exactly : PassesExactly
   pub reads-back : (names codes : List (List ℕ)) (ribbon sheet : List ℕ) → SheetFor names codes ribbon sheet
       → Each (Each Printed) names → Each (Each Band) codes → ReadsBack names codes ribbon sheet
   -- 3. The bound, of our answer and of the call; and of every run of largest joins, whoever settles the ties, for every way

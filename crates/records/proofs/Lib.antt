@@ -1,0 +1,4 @@
+-- Laws that the walks cite.
+pub mod Filling
+pub mod Row
+pub mod Findings

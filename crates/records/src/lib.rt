@@ -1,0 +1,29 @@
+// The caller's slice of place records is filled.
+ghost use Prim.Native.Nat.{_≤_};
+ghost use mathlib.Core.Path.{_≡_};
+ghost use lib.ListN.{length, take};
+ghost use Rattle.lists.specs.Runs.{over};
+ghost use Rattle.places.specs.Calls.{ChecksRibbon};
+use places::Checked;
+use places::Place;
+
+// The first records of a row, so many, over those that are lent.
+pub fn fill(all: [Place; 128], due: usize, places: &mut [Place])
+    requires { ⌜ (due ≤ 128) × (due ≤ length (now places)) ⌝ }
+    ensures { λ _. ⌜ now (places .exit) ≡ over (take due all) (now (places .entry)) ⌝ }
+{
+    let mut i = 0;
+    while i < due {
+        places[i] = all[i];
+        i += 1;
+    }
+}
+
+// Checks a supplied ribbon, and lays the records over those that are lent where every code is held.
+pub fn check_ribbon(bands: &[u8], lengths: &[u16], ribbon: &[u8], places: &mut [Place]) -> Checked
+    ensures { λ r. ⌜ ChecksRibbon (now (bands .entry)) (now (lengths .entry)) (now (ribbon .entry)) (now (places .entry)) (now (places .exit)) r ⌝ }
+{
+    let found = places::check_places(bands, lengths, ribbon, places.len());
+    fill(found.records, found.due, places);
+    found.answer
+}

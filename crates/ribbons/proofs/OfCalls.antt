@@ -1,0 +1,75 @@
+-- Demand 2 of the check, from nothing but its contract: each answer comes with the case of the claim that gives it.
+use mathlib.Core.Path.{_≡_, refl, ap}
+use mathlib.Core.List.{List}
+use Prim.Native.Nat.{ℕ, _≤_}
+use native.Mathlib.Omega.{arith}
+use lib.IntN.{ℤ}
+use lib.ListN.{length, length-map}
+use Rattle.words.specs.Turn.{turned}
+use Rattle.lists.specs.Runs.{codesIn}
+use Rattle.greedy.specs.Rules.{AllStand}
+use Rattle.greedy.proofs.Laying.{never-stuck-rule}
+use Rattle.places.specs.Check.{Missing, none-missing, missing, all-held}
+use Rattle.places.specs.Answers.{CheckAnswer, CheckOutcome, refused, missing-code, held, Fit, ChecksInto}
+use Rattle.places.specs.Answers.{false-list, long-ribbon, no-colour, no-join, no-place, short-buffer, filled}
+use Rattle.places.specs.Calls.{recordOf, recordsOf, answerOf, ChecksRibbon}
+use Rattle.places.specs.declared.Place as declared
+use Rattle.places.specs.declared.Checked.{Checked}
+use Rattle.places.specs.declared.Checked.the-variants as checked
+use Rattle.places.proofs.Check.{missing-one}
+use Rattle.ribbons.specs.Demands.{PassesExactly}
+
+-- answers told apart by a number
+abbrev kind : CheckAnswer → ℕ
+kind (refused r) = 0
+kind (missing-code k) = 1
+kind (held d) = 2
+
+abbrev is-one : Missing → ℕ
+is-one none-missing = 0
+is-one (missing k) = 1
+
+module _ (run ls row : List ℕ) (before after : List declared.Place) where
+  held-stands : {o : CheckOutcome} → ChecksInto run ls row (recordsOf before) o → kind (o .answer) ≡ 2
+      → AllStand turned (codesIn run ls) row
+  held-stands (false-list f) e = absurd (omega arith)
+  held-stands (long-ribbon f l) e = absurd (omega arith)
+  held-stands (no-colour f l b) e = absurd (omega arith)
+  held-stands (no-join f s) e = absurd (omega arith)
+  held-stands (no-place f m) e = absurd (omega arith)
+  held-stands (short-buffer f a l) e = absurd (omega arith)
+  held-stands (filled rs f a l x y z) e = a
+
+  missing-stands-not : {o : CheckOutcome} → ChecksInto run ls row (recordsOf before) o → kind (o .answer) ≡ 1
+      → AllStand turned (codesIn run ls) row → ⊥
+  missing-stands-not (false-list f) e a = omega arith
+  missing-stands-not (long-ribbon f l) e a = omega arith
+  missing-stands-not (no-colour f l b) e a = omega arith
+  missing-stands-not (no-join f s) e a = omega arith
+  missing-stands-not (no-place f m) e a = omega (arith, ap is-one (missing-one (all-held a) m))
+  missing-stands-not (short-buffer f b l) e a = omega arith
+  missing-stands-not (filled rs f b l x y z) e a = omega arith
+
+  not-refused : {o : CheckOutcome} → ChecksInto run ls row (recordsOf before) o → kind (o .answer) ≡ 0 → Fit run ls row
+      → AllStand turned (codesIn run ls) row → length ls ≤ length before → ⊥
+  not-refused (false-list f) e fit a room = fit .list f
+  not-refused (long-ribbon f l) e fit a room = omega (arith, fit .long)
+  not-refused (no-colour f l b) e fit a room = b (fit .bands)
+  not-refused (no-join f s) e fit a room = never-stuck-rule s
+  not-refused (no-place f m) e fit a room = omega arith
+  not-refused (short-buffer f b l) e fit a room = omega (arith, length-map before recordOf)
+  not-refused (filled rs f b l x y z) e fit a room = omega arith
+
+  stands-held : (r : Checked) → Fit run ls row → AllStand turned (codesIn run ls) row → length ls ≤ length before
+      → ChecksRibbon run ls row before after r → (d : ℤ) × (r ≡ checked.Held d)
+  stands-held (checked.Refused x) fit a room p = absurd (not-refused (p .means) refl fit a room)
+  stands-held (checked.Missing k) fit a room p = absurd (missing-stands-not (p .means) refl a)
+  stands-held (checked.Held d) fit a room p = (d, refl)
+
+pub passes-exactly : PassesExactly
+passes-exactly =
+    record {
+      held-stands = λ run ls row before after d p. held-stands run ls row before after (p .means) refl;
+      missing-stands-not = λ run ls row before after k p. missing-stands-not run ls row before after (p .means) refl;
+      stands-held = λ run ls row before after r. stands-held run ls row before after r;
+    }
