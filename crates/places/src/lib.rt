@@ -110,7 +110,8 @@ fn refused(number: u8) -> Findings
     }))
 }
 
-// Checks a supplied ribbon, as check_ribbon does where so many records are lent, and hands the records back by value.
+// Checks a ribbon that is supplied for a list of codes, as records::check_ribbon does where so many records are lent, and
+// hands the records that are due back by value. It refuses 12, 15, 8 and 13 as that does.
 pub fn check_places(bands: &[u8], lengths: &[u16], ribbon: &[u8], room: usize) -> Findings
     ensures { λ r. ⌜ ChecksInRoom (now (bands .entry)) (now (lengths .entry)) (now (ribbon .entry)) room (r .answer) (r .due) (r .records) ⌝ }
 {
@@ -134,7 +135,8 @@ pub fn check_places(bands: &[u8], lengths: &[u16], ribbon: &[u8], room: usize) -
     }
 }
 
-// Checks a supplied ribbon, as check_ribbon does where room is enough, for callers that want no records.
+// Checks a ribbon that is supplied for a list of codes, as records::check_ribbon does where there is room enough, for callers
+// that want no records. It refuses 12, 15 and 8.
 pub fn check_only(bands: &[u8], lengths: &[u16], ribbon: &[u8]) -> Checked
     ensures { λ r. ⌜ ChecksAlone (now (bands .entry)) (now (lengths .entry)) (now (ribbon .entry)) r ⌝ }
 {
