@@ -1,48 +1,83 @@
 //! The lists: 128 codes of up to 64 bands, the same in every run.
 
+use crate::work::Case;
 use std::collections::HashSet;
-use std::iter::{once, repeat_with};
+use std::iter::{once, repeat_n, repeat_with};
 
 const CODES: usize = 128;
 const BANDS: usize = 64;
+/// The longest supplied ribbon.
+const SUPPLIED: usize = 16_384;
 
-/// A list as the calls take it: one run of bands, and a length for each code.
-pub struct List {
-    pub name: &'static str,
-    pub bands: Vec<u8>,
-    pub lengths: Vec<u16>,
-}
-
-impl List {
-    fn new(name: &'static str, codes: Vec<Vec<u8>>) -> List {
+impl Case {
+    fn new(name: &'static str, codes: Vec<Vec<u8>>, ribbon: Vec<u8>) -> Case {
         assert_eq!(codes.len(), CODES);
-        let lengths = codes.iter().map(|code| code.len() as u16).collect();
-        List {
+        // As long as a name may be, and mostly quotes, which are written twice.
+        let names = (0..CODES).map(|number| format!("{number:\">24}"));
+        Case {
             name,
+            lengths: codes.iter().map(|code| code.len() as u16).collect(),
             bands: codes.concat(),
-            lengths,
+            names: names.collect::<String>().into_bytes(),
+            sizes: vec![24; CODES],
+            ribbon,
         }
     }
-
-    pub fn codes(&self) -> Vec<&[u8]> {
-        let mut rest = &self.bands[..];
-        let cut = |&length: &u16| {
-            let (code, after) = rest.split_at(length.into());
-            rest = after;
-            code
-        };
-        self.lengths.iter().map(cut).collect()
-    }
 }
 
-pub fn largest() -> Vec<List> {
+/// For laying out and for the sheet.
+pub fn largest() -> Vec<Case> {
     vec![
-        List::new("random, 26 letters", random(26)),
-        List::new("random, 2 letters", random(2)),
-        List::new("nearly all equal", nearly_equal()),
-        List::new("already chained", chained()),
-        List::new("127 contained in one", contained()),
+        Case::new("random, 26 letters", random(26), Vec::new()),
+        Case::new("random, 2 letters", random(2), Vec::new()),
+        Case::new("nearly all equal", nearly_equal(), Vec::new()),
+        Case::new("already chained", chained(), Vec::new()),
+        Case::new("127 contained in one", contained(), Vec::new()),
     ]
+}
+
+/// For the check, each with a ribbon of 16,384 bands: every code stands only near its end, or the
+/// last one nowhere.
+pub fn checked() -> Vec<Case> {
+    let end = one_odd_band_each();
+    let mut missed = one_odd_band();
+    missed[CODES - 1][BANDS / 2] = b'D';
+    vec![
+        Case::new("nearly all equal, held", one_odd_band(), ended(b'A', &end)),
+        Case::new("nearly all equal, missed", missed, ended(b'A', &end)),
+        Case::new("random, 2 letters, held", random(2), behind(2)),
+        Case::new("random, 26 letters, held", random(26), behind(26)),
+    ]
+}
+
+/// All A but one band, B or C, at each place.
+fn one_odd_band() -> Vec<Vec<u8>> {
+    let code = |number: usize| {
+        let mut code = vec![b'A'; BANDS];
+        code[number / 2] = b"BC"[number % 2];
+        code
+    };
+    (0..CODES).map(code).collect()
+}
+
+/// A row on which all these codes stand: B and C with 63 times A before, between and behind them.
+fn one_odd_band_each() -> Vec<u8> {
+    let run = vec![b'A'; BANDS - 1];
+    [&run[..], b"B", &run, b"C", &run].concat()
+}
+
+/// A longest ribbon of one band and then this end.
+fn ended(band: u8, end: &[u8]) -> Vec<u8> {
+    repeat_n(band, SUPPLIED - end.len())
+        .chain(end.iter().copied())
+        .collect()
+}
+
+/// The random codes end to end behind as many other bands.
+fn behind(letters: usize) -> Vec<u8> {
+    let end = random(letters).concat();
+    let other = Random(5).bands(SUPPLIED - end.len(), letters);
+    [other, end].concat()
 }
 
 /// A linear congruential generator (Knuth's MMIX); its upper bits are used.

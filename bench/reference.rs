@@ -1,14 +1,66 @@
-//! The ribbon that the reference implementation's command writes.
+//! What the reference implementation's command writes, as the outcome of a call.
 
-use crate::lists::List;
+use crate::work::{Answer, Case, Outcome, Verdict};
 use std::ffi::OsStr;
-use std::io::{Error, Result, Write};
+use std::io::{Error, Result};
 use std::process::{Command, Stdio};
 
-/// It reads an order list from standard input and writes the ribbon and CR LF.
-pub fn ribbon(command: &OsStr, list: &List) -> Result<Vec<u8>> {
-    let mut child = Command::new(command)
-        .arg("ribbon")
+/// The ribbon program writes the ribbon and CR LF.
+pub fn lay(command: &OsStr, case: &Case, room: usize) -> Result<Outcome> {
+    let written = run(Command::new(command).arg("ribbon"), case)?;
+    let ribbon = written
+        .strip_suffix(b"\r\n")
+        .ok_or_else(|| strange(&written))?;
+    Ok(Outcome::written(ribbon, room))
+}
+
+/// The sheet program writes the sheet.
+pub fn sheet(command: &OsStr, case: &Case, room: usize) -> Result<Outcome> {
+    let written = run(Command::new(command).arg("sheet"), case)?;
+    Ok(Outcome::written(&written, room))
+}
+
+/// The check program writes `held,` and the difference, or `missing,` and a code's number.
+pub fn check(command: &OsStr, case: &Case, room: usize) -> Result<Outcome> {
+    let file = std::env::temp_dir().join(format!("bench-ribbon-{}", std::process::id()));
+    std::fs::write(&file, &case.ribbon)?;
+    let written = run(
+        Command::new(command).args([
+            OsStr::new("check"),
+            OsStr::new("/dev/stdin"),
+            file.as_os_str(),
+        ]),
+        case,
+    );
+    std::fs::remove_file(&file)?;
+    let written = written?;
+    let line = String::from_utf8_lossy(&written);
+    let verdict = match line.trim_end().split_once(',') {
+        Some(("held", difference)) => Verdict {
+            held: true,
+            difference: difference.parse().map_err(|_| strange(&written))?,
+            ..Verdict::default()
+        },
+        Some(("missing", number)) => Verdict {
+            missing: number.parse().map_err(|_| strange(&written))?,
+            ..Verdict::default()
+        },
+        _ => return Err(strange(&written)),
+    };
+    Ok(Outcome {
+        answer: Answer::Verdict(verdict),
+        ..Outcome::written(b"", room)
+    })
+}
+
+fn strange(written: &[u8]) -> Error {
+    Error::other(format!("it writes {:?}", String::from_utf8_lossy(written)))
+}
+
+/// The command with the order list on its standard input. No case is refused.
+fn run(command: &mut Command, case: &Case) -> Result<Vec<u8>> {
+    use std::io::Write;
+    let mut child = command
         .stdin(Stdio::piped())
         .stdout(Stdio::piped())
         .spawn()?;
@@ -16,23 +68,34 @@ pub fn ribbon(command: &OsStr, list: &List) -> Result<Vec<u8>> {
         .stdin
         .take()
         .expect("a pipe")
-        .write_all(&order_list(list))?;
-    let output = child.wait_with_output()?.stdout;
-    match output.strip_suffix(b"\r\n") {
-        Some(ribbon) if !ribbon.starts_with(b"refused,") => Ok(ribbon.to_vec()),
-        _ => Err(Error::other(format!(
-            "it writes {:?}",
-            String::from_utf8_lossy(&output)
-        ))),
+        .write_all(&order_list(case))?;
+    let written = child.wait_with_output()?.stdout;
+    if written.is_empty() || written.starts_with(b"refused,") {
+        return Err(strange(&written));
     }
+    Ok(written)
 }
 
-fn order_list(list: &List) -> Vec<u8> {
+/// Every name in quotes, each quote inside doubled.
+fn order_list(case: &Case) -> Vec<u8> {
     let mut file = b"name,code\r\n".to_vec();
-    for (number, code) in list.codes().into_iter().enumerate() {
-        file.extend(format!("{number},").bytes());
+    let names = parts(&case.names, &case.sizes);
+    for (name, code) in names.into_iter().zip(parts(&case.bands, &case.lengths)) {
+        let name = String::from_utf8_lossy(name).replace('"', "\"\"");
+        file.extend(format!("\"{name}\",").bytes());
         file.extend(code);
         file.extend(b"\r\n");
     }
     file
+}
+
+/// A run cut by lengths.
+fn parts<'a>(run: &'a [u8], lengths: &[u16]) -> Vec<&'a [u8]> {
+    let mut rest = run;
+    let cut = |&length: &u16| {
+        let (part, after) = rest.split_at(length.into());
+        rest = after;
+        part
+    };
+    lengths.iter().map(cut).collect()
 }

@@ -2,11 +2,17 @@
 //! a face is a number, and all comparing and searching is done by plain loops over indices.
 #![allow(clippy::needless_range_loop)]
 
+use crate::work::{Answer, Case, Verdict};
+
+pub fn lay(case: &Case, ribbon: &mut [u8]) -> Answer {
+    Answer::Length(lay_ribbon(&case.bands, &case.lengths, ribbon))
+}
+
 const CODES: usize = 128;
 const FACES: usize = 2 * CODES;
 const LONGEST: usize = 64;
 
-pub fn lay(bands: &[u8], lengths: &[u16], ribbon: &mut [u8]) -> u32 {
+fn lay_ribbon(bands: &[u8], lengths: &[u16], ribbon: &mut [u8]) -> u32 {
     if !list_ok(bands, lengths) {
         return 0;
     }
@@ -328,4 +334,263 @@ fn write_bands(parts: &Parts, order: &[usize], skips: &[usize], ribbon: &mut [u8
             at += 1;
         }
     }
+}
+
+// Places
+
+#[derive(Clone, Copy)]
+enum Found {
+    Given(usize),
+    Turned(usize),
+    Nowhere,
+}
+
+/// The smallest start below the limit at which a way of c stands on s; the limit where there is none.
+fn first_start(c: &[u8], turned: bool, s: &[u8], limit: usize) -> usize {
+    let mut i = 0;
+    'starts: loop {
+        if i == limit {
+            break limit;
+        }
+        let mut j = 0;
+        while j < c.len() {
+            if band_at(c, turned, j) != s[i + j] {
+                i += 1;
+                continue 'starts;
+            }
+            j += 1;
+        }
+        break i;
+    }
+}
+
+fn find_place(c: &[u8], s: &[u8]) -> Found {
+    if s.len() < c.len() {
+        return Found::Nowhere;
+    }
+    let last = s.len() - c.len();
+    let given = first_start(c, false, s, last + 1);
+    let turned = first_start(c, true, s, given);
+    if turned < given {
+        Found::Turned(turned)
+    } else if given <= last {
+        Found::Given(given)
+    } else {
+        Found::Nowhere
+    }
+}
+
+/// The places of the codes until one has none; how many.
+fn find_places(parts: &Parts, s: &[u8], places: &mut [Found]) -> usize {
+    for i in 0..parts.count {
+        let found = find_place(parts.part(i), s);
+        if let Found::Nowhere = found {
+            return i;
+        }
+        places[i] = found;
+    }
+    parts.count
+}
+
+// Checking
+
+pub fn check(case: &Case, _: &mut [u8]) -> Answer {
+    Answer::Verdict(check_ribbon(&case.bands, &case.lengths, &case.ribbon))
+}
+
+fn check_ribbon(bands: &[u8], lengths: &[u16], ribbon: &[u8]) -> Verdict {
+    let fault = supplied_fault(bands, lengths, ribbon);
+    if fault != 0 {
+        return Verdict {
+            refused: fault,
+            ..Verdict::default()
+        };
+    }
+    let mut places = [Found::Nowhere; CODES];
+    let count = find_places(&cut(bands, lengths), ribbon, &mut places);
+    if count < lengths.len() {
+        return Verdict {
+            missing: count as u32,
+            ..Verdict::default()
+        };
+    }
+    let computed = lay_ribbon(bands, lengths, &mut [0; CODES * LONGEST]);
+    Verdict {
+        held: true,
+        difference: ribbon.len() as i32 - computed as i32,
+        ..Verdict::default()
+    }
+}
+
+fn supplied_fault(bands: &[u8], lengths: &[u16], ribbon: &[u8]) -> u8 {
+    if !list_ok(bands, lengths) {
+        return 12;
+    }
+    if ribbon.len() > 16_384 {
+        return 15;
+    }
+    for i in 0..ribbon.len() {
+        if ribbon[i] < b'A' || ribbon[i] > b'Z' {
+            return 8;
+        }
+    }
+    0
+}
+
+// The sheet
+
+const HEADING: &[u8] = b"name,way,start,bands\r\n";
+
+pub fn sheet(case: &Case, out: &mut [u8]) -> Answer {
+    Answer::Length(write_sheet(case, out))
+}
+
+fn write_sheet(case: &Case, out: &mut [u8]) -> u32 {
+    let names = cut(&case.names, &case.sizes);
+    if !list_ok(&case.bands, &case.lengths) || !names_ok(&names, case.lengths.len()) {
+        return 0;
+    }
+    let mut ribbon = [0; CODES * LONGEST];
+    let length = lay_ribbon(&case.bands, &case.lengths, &mut ribbon);
+    let ribbon = &ribbon[..length as usize];
+    let codes = cut(&case.bands, &case.lengths);
+    let mut places = [Found::Nowhere; CODES];
+    find_places(&codes, ribbon, &mut places);
+    let size = sheet_size(&names, &codes, &places);
+    if out.len() < size {
+        return 0;
+    }
+    let mut at = put_word(HEADING, out, 0);
+    for i in 0..codes.count {
+        at = put_row(
+            names.part(i),
+            codes.part(i).len(),
+            places[i],
+            ribbon,
+            out,
+            at,
+        );
+    }
+    size as u32
+}
+
+fn names_ok(names: &Parts, count: usize) -> bool {
+    if names.count != count {
+        return false;
+    }
+    for i in 0..names.count {
+        let name = names.part(i);
+        if name.is_empty() || name.len() > 24 {
+            return false;
+        }
+        for k in 0..name.len() {
+            if name[k] < 0x20 || name[k] > 0x7E {
+                return false;
+            }
+        }
+        for j in i + 1..names.count {
+            let other = names.part(j);
+            if name.len() == other.len() && agree(name, false, other, false, name.len()) {
+                return false;
+            }
+        }
+    }
+    true
+}
+
+fn needs_quotes(name: &[u8]) -> bool {
+    for i in 0..name.len() {
+        if name[i] == b',' || name[i] == b'"' {
+            return true;
+        }
+    }
+    false
+}
+
+fn field_size(name: &[u8]) -> usize {
+    if !needs_quotes(name) {
+        return name.len();
+    }
+    let mut size = 2;
+    for i in 0..name.len() {
+        size += if name[i] == b'"' { 2 } else { 1 };
+    }
+    size
+}
+
+fn decimal_size(n: usize) -> usize {
+    if n < 10 {
+        1
+    } else {
+        decimal_size(n / 10) + 1
+    }
+}
+
+fn sheet_size(names: &Parts, codes: &Parts, places: &[Found]) -> usize {
+    let mut size = HEADING.len();
+    for i in 0..codes.count {
+        let (way, start) = way_and_start(places[i]);
+        size += field_size(names.part(i)) + way.len() + decimal_size(start);
+        size += codes.part(i).len() + 5;
+    }
+    size
+}
+
+fn way_and_start(place: Found) -> (&'static [u8], usize) {
+    match place {
+        Found::Given(start) => (b"given", start),
+        Found::Turned(start) => (b"turned", start),
+        Found::Nowhere => (b"", 0),
+    }
+}
+
+fn put_word(word: &[u8], out: &mut [u8], at: usize) -> usize {
+    for j in 0..word.len() {
+        out[at + j] = word[j];
+    }
+    at + word.len()
+}
+
+fn put_field(name: &[u8], out: &mut [u8], at: usize) -> usize {
+    if !needs_quotes(name) {
+        return put_word(name, out, at);
+    }
+    let mut at = put_word(b"\"", out, at);
+    for i in 0..name.len() {
+        if name[i] == b'"' {
+            at = put_word(b"\"", out, at);
+        }
+        out[at] = name[i];
+        at += 1;
+    }
+    put_word(b"\"", out, at)
+}
+
+fn put_decimal(n: usize, out: &mut [u8], at: usize) -> usize {
+    let at = if n < 10 {
+        at
+    } else {
+        put_decimal(n / 10, out, at)
+    };
+    out[at] = b'0' + (n % 10) as u8;
+    at + 1
+}
+
+fn put_row(
+    name: &[u8],
+    size: usize,
+    place: Found,
+    ribbon: &[u8],
+    out: &mut [u8],
+    at: usize,
+) -> usize {
+    let (way, start) = way_and_start(place);
+    let at = put_field(name, out, at);
+    let at = put_word(b",", out, at);
+    let at = put_word(way, out, at);
+    let at = put_word(b",", out, at);
+    let at = put_decimal(start, out, at);
+    let at = put_word(b",", out, at);
+    let at = put_word(&ribbon[start..start + size], out, at);
+    put_word(b"\r\n", out, at)
 }

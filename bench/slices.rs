@@ -1,19 +1,28 @@
 //! The same method as one writes it with slices: `windows`, a sort, `partition_point`,
 //! `starts_with`, `ends_with`.
 
+use crate::work::{Answer, Case, Verdict};
+use std::collections::HashSet;
+
 const LONGEST: usize = 64;
 
-pub fn lay(bands: &[u8], lengths: &[u16], ribbon: &mut [u8]) -> u32 {
-    let Some(codes) = cut(bands, lengths) else {
-        return 0;
-    };
-    let faces = faces_of(&codes);
-    let row = read(&faces, &Joins::of(&faces).piece_of(0));
-    match ribbon.get_mut(..row.len()) {
-        Some(room) => room.copy_from_slice(&row),
-        None => return 0,
-    }
-    row.len() as u32
+pub fn lay(case: &Case, ribbon: &mut [u8]) -> Answer {
+    let codes = cut(&case.bands, &case.lengths);
+    written(codes.map(|codes| row_of(&codes)), ribbon)
+}
+
+/// A result, where there is one and it fits.
+fn written(result: Option<Vec<u8>>, out: &mut [u8]) -> Answer {
+    let length = result.and_then(|result| {
+        out.get_mut(..result.len())?.copy_from_slice(&result);
+        Some(result.len() as u32)
+    });
+    Answer::Length(length.unwrap_or(0))
+}
+
+fn row_of(codes: &[&[u8]]) -> Vec<u8> {
+    let faces = faces_of(codes);
+    read(&faces, &Joins::of(&faces).piece_of(0))
 }
 
 /// The codes of a list that keeps the rules.
@@ -134,4 +143,100 @@ fn read(faces: &[Vec<u8>], order: &[usize]) -> Vec<u8> {
         row.extend(&next[overlap(last, next)..]);
     }
     row
+}
+
+/// Whether turned, and the start.
+fn place(code: &[u8], row: &[u8]) -> Option<(bool, usize)> {
+    let other = turned(code);
+    let mut parts = row.windows(code.len()).enumerate();
+    let (start, part) = parts.find(|&(_, part)| part == code || part == other)?;
+    Some((part != code, start))
+}
+
+pub fn check(case: &Case, _: &mut [u8]) -> Answer {
+    Answer::Verdict(verdict(case))
+}
+
+fn verdict(case: &Case) -> Verdict {
+    let refused = |number| Verdict {
+        refused: number,
+        ..Verdict::default()
+    };
+    let Some(codes) = cut(&case.bands, &case.lengths) else {
+        return refused(12);
+    };
+    if case.ribbon.len() > 16_384 {
+        return refused(15);
+    }
+    if !case.ribbon.iter().all(u8::is_ascii_uppercase) {
+        return refused(8);
+    }
+    let missing = |code: &&[u8]| place(code, &case.ribbon).is_none();
+    match codes.iter().position(missing) {
+        Some(number) => Verdict {
+            missing: number as u32,
+            ..Verdict::default()
+        },
+        None => Verdict {
+            held: true,
+            difference: case.ribbon.len() as i32 - row_of(&codes).len() as i32,
+            ..Verdict::default()
+        },
+    }
+}
+
+pub fn sheet(case: &Case, out: &mut [u8]) -> Answer {
+    written(sheet_of(case), out)
+}
+
+fn sheet_of(case: &Case) -> Option<Vec<u8>> {
+    let codes = cut(&case.bands, &case.lengths)?;
+    let names = names_of(case)?;
+    let row = row_of(&codes);
+    let mut sheet = b"name,way,start,bands\r\n".to_vec();
+    for (name, code) in names.into_iter().zip(codes) {
+        let (turned, start) = place(code, &row)?;
+        sheet.extend(field(name));
+        sheet.extend(if turned { &b",turned,"[..] } else { b",given," });
+        sheet.extend(start.to_string().bytes());
+        sheet.push(b',');
+        sheet.extend(&row[start..start + code.len()]);
+        sheet.extend(b"\r\n");
+    }
+    Some(sheet)
+}
+
+/// The names of a list that keep the rules.
+fn names_of(case: &Case) -> Option<Vec<&[u8]>> {
+    let mut rest = &case.names[..];
+    let mut names = Vec::new();
+    for &size in &case.sizes {
+        let (name, after) = rest.split_at_checked(size.into())?;
+        names.push(name);
+        rest = after;
+    }
+    let good = |name: &&[u8]| {
+        (1..=24).contains(&name.len()) && name.iter().all(|byte| (0x20..=0x7E).contains(byte))
+    };
+    let once: HashSet<&[u8]> = names.iter().copied().collect();
+    let ok = rest.is_empty()
+        && names.len() == case.lengths.len()
+        && names.iter().all(good)
+        && once.len() == names.len();
+    ok.then_some(names)
+}
+
+fn field(name: &[u8]) -> Vec<u8> {
+    if !name.iter().any(|byte| b",\"".contains(byte)) {
+        return name.to_vec();
+    }
+    let mut field = vec![b'"'];
+    for &byte in name {
+        if byte == b'"' {
+            field.push(byte);
+        }
+        field.push(byte);
+    }
+    field.push(b'"');
+    field
 }

@@ -4,7 +4,8 @@ use mathlib.Core.Path.{_≡_, sym, ap, subst, _∙_}
 use mathlib.Core.List.{List, [], _∷_}
 use Prim.Native.Nat.{ℕ, _≤_}
 use native.Mathlib.Omega.{arith}
-use lib.ListN.{length}
+use lib.ListN.{length, length-append}
+use Rattle.words.specs.Texts.{text}
 use Rattle.words.specs.Lists.{Each}
 use Rattle.words.specs.Turn.{turned}
 use Rattle.words.proofs.Turning.{turning}
@@ -22,7 +23,14 @@ use Rattle.layout.specs.Calls.{Gives, answerOf}
 use Rattle.greedy.specs.Answers.{LaysInto, false-list, no-join, short-buffer, filled}
 use Rattle.layout.specs.declared.Laid.{Laid}
 use Rattle.greedy.proofs.Answers.{lays-out-ours, laid-means}
-use Rattle.exports.specs.Lengths.{lengthOf, GivesLength}
+use Rattle.sheets.specs.Sheet.{SheetFor, heading-first}
+use Rattle.sheets.specs.Answers.{written, SheetOutcome}
+use Rattle.sheets.specs.Answers as sheet
+use Rattle.sheets.proofs.Answers.{sheets-ours}
+use Rattle.writer.specs.Calls.{WritesSheet}
+use Rattle.writer.specs.Calls as writer
+use Rattle.writer.specs.declared.Wrote.{Wrote}
+use Rattle.exports.specs.Lengths.{lengthOf, GivesLength, sheetLengthOf, GivesSheetLength}
 
 some-band : (cs : List (List ℕ)) (ribbon : List ℕ) → 1 ≤ length cs → Each CodeRule cs → AllStand turned cs ribbon
     → 1 ≤ length ribbon
@@ -62,4 +70,34 @@ gives-length run ls before e g =
       never-laid = λ z bands saved f.
           let n : bands ≡ 0 = sym (a ∙ ap lengthOf f) ∙ z in
           absurd (omega (arith, some-bands run ls before f));
+    }
+
+-- A sheet has a heading.
+module _ (run ls name-run name-ls before : List ℕ) where
+  sheet-refused : {r : Refusal} {bytes saved : ℕ} → sheet.refused r ≡ written bytes saved → ⊥
+  sheet-refused e = let z : _≡_ {A = ℕ} 0 1 = cc in absurd (omega arith)
+
+  some-bytes : {o : SheetOutcome} {bytes saved : ℕ} → sheet.SheetsInto run ls name-run name-ls before o
+      → o .answer ≡ written bytes saved → 22 ≤ bytes
+  some-bytes (sheet.false-list f) e = absurd (sheet-refused e)
+  some-bytes (sheet.no-join f s) e = absurd (sheet-refused e)
+  some-bytes (sheet.short-buffer f s l) e = absurd (sheet-refused e)
+  some-bytes {bytes = bytes} (sheet.filled {sheet = t} f s l) e =
+      let z : length t ≡ bytes = cc in
+      omega (arith, at-least (s .shows))
+    where
+      at-least : {names codes : List (List ℕ)} {ribbon t : List ℕ} → SheetFor names codes ribbon t → 22 ≤ length t
+      at-least (heading-first {rows} rs) = omega (arith, length-append (text "name,way,start,bands\r\n") rows)
+
+pub gives-sheet-length : (run ls name-run name-ls before : List ℕ) {after : List ℕ} {x y : Wrote} → x ≡ y
+    → WritesSheet run ls name-run name-ls before after x
+    → GivesSheetLength run ls name-run name-ls before after (sheetLengthOf (writer.answerOf y))
+gives-sheet-length run ls name-run name-ls before e w =
+    let a = sym (ap (λ u. sheetLengthOf (writer.answerOf u)) e) ∙ ap sheetLengthOf (w .answer) in
+    record {
+      answer = a;
+      left = w .left;
+      never-written = λ z bytes saved f.
+          let n : bytes ≡ 0 = sym (a ∙ ap sheetLengthOf f) ∙ z in
+          absurd (omega (arith, some-bytes run ls name-run name-ls before (sheets-ours run ls name-run name-ls before) f));
     }

@@ -1,2 +1,3 @@
 -- Proofs of the exported calls.
 pub mod Lengths
+pub mod Verdicts

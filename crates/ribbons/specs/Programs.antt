@@ -44,9 +44,15 @@ abbrev pub signed : ℤ → List ℕ
 signed (pos n) = decimal n
 signed (negsuc n) = text "-" ++ decimal (suc n)
 
+abbrev pub heldLine : ℤ → List ℕ
+heldLine difference = text "held," ++ (signed difference ++ lineBreak)
+
+abbrev pub missingLine : ℕ → List ℕ
+missingLine code = text "missing," ++ (decimal code ++ lineBreak)
+
 abbrev pub foundLine : ℤ → Missing → List ℕ
-foundLine difference none-missing = text "held," ++ (signed difference ++ lineBreak)
-foundLine difference (missing k) = text "missing," ++ (decimal k ++ lineBreak)
+foundLine difference none-missing = heldLine difference
+foundLine difference (missing k) = missingLine k
 
 abbrev pub checkedLine : List (List ℕ) → List ℕ → List ℕ
 checkedLine codes row =
@@ -64,3 +70,9 @@ pub record WritesOver (text before after : List ℕ) (r : ℕ) : Type 0 where
   pub long : r ≡ length text
   pub written : after ≡ over text before
   pub counts : (r ≤ length after) × (r ≡ length (take r after))
+
+-- How much of its files a program need read: one byte more than an order list may have, and three more than a ribbon, for
+-- CR LF and one to see that there is more. Whatever comes after that, the output is the same.
+pub record ReadsEnough : Type 0 where
+  pub of-list : (written : Orders → List ℕ) (file : List ℕ) → ofList written (take 16385 file) ≡ ofList written file
+  pub of-ribbon : (list file : List ℕ) → checkOutput list (take 16387 file) ≡ checkOutput list file

@@ -1,10 +1,54 @@
 // The crate that others link: the public calls under one roof, and for each program the call that computes its output.
+mod check_printing; // the check program's output
+mod limits; // sizes that always suffice
 mod lines; // the lines that programs write
-mod printing; // the programs' outputs
+mod refusals; // the numbers of refusals
+mod ribbon_printing; // the ribbon program's
+mod sheet_printing; // the sheet program's
 
-pub use layout::Laid;
-pub use layout::lay_ribbon;
-pub use lists::Refusal;
+// reading an order list
 pub use orders::Read;
 pub use orders::read_orders;
-pub use printing::ribbon_output;
+// laying out a ribbon
+pub use layout::Laid;
+pub use layout::lay_ribbon;
+// checking a supplied ribbon
+pub use places::Checked;
+pub use places::Findings;
+pub use places::Place;
+pub use places::Way;
+pub use places::check_only;
+pub use places::check_places;
+pub use records::check_ribbon;
+pub use rows::ribbon_of;
+// writing the sheet
+pub use writer::Wrote;
+pub use writer::write_sheet;
+// refusals, which all of them give
+pub use lists::Refusal;
+pub use refusals::BAD_NAME;
+pub use refusals::BROKEN_ROW;
+pub use refusals::EMPTY_LIST;
+pub use refusals::FALSE_LIST;
+pub use refusals::LIST_FULL;
+pub use refusals::LONG_CODE;
+pub use refusals::LONG_FILE;
+pub use refusals::LONG_RIBBON;
+pub use refusals::NAME_TAKEN;
+pub use refusals::NO_BANDS;
+pub use refusals::SHORT_BUFFER;
+pub use refusals::STUCK;
+pub use refusals::UNKNOWN_COLOUR;
+pub use refusals::WRONG_HEADING;
+pub use refusals::WRONG_WIDTH;
+// sizes that always suffice
+pub use limits::MOST_BANDS;
+pub use limits::MOST_CODES;
+pub use limits::MOST_FILE_BYTES;
+pub use limits::MOST_NAME_BYTES;
+pub use limits::MOST_SHEET_BYTES;
+pub use limits::MOST_SUPPLIED_BANDS;
+// what the programs write
+pub use check_printing::check_output;
+pub use ribbon_printing::ribbon_output;
+pub use sheet_printing::sheet_output;

@@ -10,6 +10,9 @@ ghost use Rattle.lists.specs.Fit.{listOk};
 ghost use Rattle.grammar.specs.Files.{lineBreak};
 ghost use Rattle.greedy.specs.Layout.{ribbonFor};
 ghost use Rattle.ribbons.specs.Programs.{ribbonOutput, WritesOver};
+use crate::limits::MOST_BANDS;
+use crate::limits::MOST_CODES;
+use crate::limits::MOST_NAME_BYTES;
 use crate::lines::refused_line;
 use layout::Laid;
 use layout::lay_ribbon;
@@ -33,10 +36,10 @@ fn ribbon_line(bands: &[u8], lengths: &[u16], out: &mut [u8]) -> usize
 pub fn ribbon_output(file: &[u8], out: &mut [u8; 8194]) -> usize
     ensures { λ r. ⌜ WritesOver (ribbonOutput (now (file .entry))) (now (out .entry)) (now (out .exit)) r ⌝ }
 {
-    let mut bands = [0u8; 8192];
-    let mut lengths = [0u16; 128];
-    let mut names = [0u8; 3072];
-    let mut sizes = [0u16; 128];
+    let mut bands = [0u8; MOST_BANDS];
+    let mut lengths = [0u16; MOST_CODES];
+    let mut names = [0u8; MOST_NAME_BYTES];
+    let mut sizes = [0u16; MOST_CODES];
     let read = read_orders(file, &mut bands, &mut lengths, &mut names, &mut sizes);
     match read {
         Read::Refused(r) => refused_line(r, out),

@@ -1,9 +1,9 @@
--- `printing::ribbon_line`: a fit list is laid out, and CR LF behind its ribbon makes the line.
+-- `ribbon_printing::ribbon_line`: a fit list is laid out, and CR LF behind its ribbon makes the line.
 use Rattle.layout.proofs.Calls.{told, never-refused}
-use Rattle.ribbons.proofs.Outputs.{line-fits, line-written}
+use Rattle.ribbons.proofs.RibbonText.{line-fits, line-written}
 use borrow.Author.Needs.{needs}
-use Rattle.ribbons.proofs.printing.ribbon_line.Statement.{statement}
-use Rattle.ribbons.proofs.printing.ribbon_line.Tie as tie
+use Rattle.ribbons.proofs.ribbon_printing.ribbon_line.Statement.{statement}
+use Rattle.ribbons.proofs.ribbon_printing.ribbon_line.Tie as tie
 
 lay-ribbon-requires : tie.Need-lay-ribbon-requires
 lay-ribbon-requires c κs = search needs

@@ -1,11 +1,19 @@
--- `printing::ribbon_output`: a list that is read is fit and its ribbon is written; a file that is refused gives its line.
+-- `ribbon_printing::ribbon_output`: a list that is read is fit and its ribbon is written; a file that is refused gives its line.
 use mathlib.Core.Path.{sym}
-use lib.Seq.{length-take-le}
-use Rattle.ribbons.proofs.Outputs.{accepted, counts-fit, list-fits, writes-ribbon, writes-refusal}
-use borrow.Author.Needs.{needs}
+use mathlib.Core.List.{List, _++_}
+use Prim.Native.Nat.{ℕ}
 use native.Mathlib.Omega.{arith}
-use Rattle.ribbons.proofs.printing.ribbon_output.Statement.{statement}
-use Rattle.ribbons.proofs.printing.ribbon_output.Tie as tie
+use borrow.Author.Needs.{needs}
+use lib.Seq.{length-take-le}
+use Rattle.words.specs.Turn.{turned}
+use Rattle.grammar.specs.Files.{lineBreak, Orders}
+use Rattle.greedy.specs.Layout.{ribbonFor}
+use Rattle.ribbons.proofs.Outputs.{accepted, counts-fit, list-fits, writes-of-list, writes-refusal}
+use Rattle.ribbons.proofs.ribbon_printing.ribbon_output.Statement.{statement}
+use Rattle.ribbons.proofs.ribbon_printing.ribbon_output.Tie as tie
+
+abbrev written : Orders → List ℕ
+written x = ribbonFor turned (x .codes) ++ lineBreak
 
 slice-aggregate-read-orders : tie.Need-slice-aggregate-read-orders
 slice-aggregate-read-orders c = search needs
@@ -54,12 +62,12 @@ ribbon-line-requires c κs = (list-fits (accepted (c .before .before .before .be
 
 returns : tie.Need-returns
 returns c =
-    writes-refusal (c .before .before .before .before .before .before .before .before .before .before .before .before .before .before .before .args .file .now) (c .before .before .before .before .before .before .before .before .before .read-orders .ensures) (c .before .before .before .read .given .1)
+    writes-refusal written (c .before .before .before .before .before .before .before .before .before .before .before .before .before .before .before .args .file .now) (c .before .before .before .before .before .before .before .before .before .read-orders .ensures) (c .before .before .before .read .given .1)
     (search needs) (search needs) (search needs) (search needs) (c .refused-line .ensures)
 
 returns-2 : tie.Need-returns-2
 returns-2 c =
-    writes-ribbon (c .before .before .before .before .before .before .before .before .before .before .before .before .before .before .before .before .before .args .file .now) (c .before .before .before .before .before .before .before .before .before .before .before .read-orders .ensures) (c .before .before .before .before .before .read2 .given .1) (c .ribbon-line .ensures)
+    writes-of-list written (c .before .before .before .before .before .before .before .before .before .before .before .before .before .before .before .before .before .args .file .now) (c .before .before .before .before .before .before .before .before .before .before .before .read-orders .ensures) (c .before .before .before .before .before .read2 .given .1) (c .ribbon-line .ensures)
 
 pub ribbon-output-spec : {M : Type 1} → statement M
 ribbon-output-spec =

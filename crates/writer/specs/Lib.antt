@@ -1,0 +1,2 @@
+-- What the call that writes a sheet promises.
+pub mod Calls

@@ -1,0 +1,85 @@
+// Writing the sheet of a list with names into a lent buffer.
+ghost use mathlib.Core.Path.{_≡_};
+ghost use Rattle.lists.specs.Refusals.{whole};
+ghost use Rattle.sheets.specs.Answers as a;
+ghost use Rattle.writer.specs.Calls.{answerOf, Ready, Gives, laidOutcome, WritesSheet};
+
+mod page; // the rows of a sheet
+
+use layout::Laid;
+use layout::lay_ribbon;
+use lists::Refusal;
+pub use page::put_sheet;
+use places::find_places;
+use sheets::sheet_size;
+
+// The sheet's length and what its ribbon saves; or the refusal, 12, 14 or 13.
+pub enum Wrote {
+    Refused(Refusal),
+    Sheet { bytes: u32, saved: u32 },
+}
+
+// A refusal of the whole list.
+fn refused(number: u8) -> Wrote
+    ensures { λ r. ⌜ answerOf r ≡ a.refused (whole number) ⌝ }
+{
+    Wrote::Refused(Refusal {
+        number: number,
+        row: 0,
+    })
+}
+
+// The sheet of a fit list with its ribbon and what that saves, written where it fits.
+fn write_laid(
+    bands: &[u8],
+    lengths: &[u16],
+    names: &[u8],
+    sizes: &[u16],
+    ribbon: &[u8],
+    saved: u32,
+    out: &mut [u8],
+) -> Wrote
+    requires { ⌜ Ready (now bands) (now lengths) (now names) (now sizes) (now ribbon) ⌝ }
+    ensures { λ r. ⌜ Gives (laidOutcome (now (bands .entry)) (now (lengths .entry)) (now (names .entry)) (now (sizes .entry)) saved (now (out .entry))) (now (out .exit)) r ⌝ }
+{
+    let sought = find_places(bands, lengths, ribbon);
+    let records = sought.records;
+    let size = sheet_size(names, sizes, lengths, records, ribbon);
+    if out.len() < size {
+        return refused(13);
+    }
+    put_sheet(names, sizes, lengths, records, ribbon, out);
+    Wrote::Sheet {
+        bytes: size as u32,
+        saved,
+    }
+}
+
+// Writes the sheet of a list of codes with names into a lent buffer. It answers with the sheet's length and what its ribbon
+// saves. It refuses a false list or false names by 12, and a buffer that is too short by 13; then nothing lent is touched.
+// 14 is never due.
+pub fn write_sheet(
+    bands: &[u8],
+    lengths: &[u16],
+    names: &[u8],
+    sizes: &[u16],
+    out: &mut [u8],
+) -> Wrote
+    ensures { λ r. ⌜ WritesSheet (now (bands .entry)) (now (lengths .entry)) (now (names .entry)) (now (sizes .entry)) (now (out .entry)) (now (out .exit)) r ⌝ }
+{
+    if !lists::list_ok(bands, lengths) {
+        return refused(12);
+    }
+    if !lists::names_ok(lengths.len(), names, sizes) {
+        return refused(12);
+    }
+    let mut ribbon = [0u8; 8192];
+    let laid = lay_ribbon(bands, lengths, &mut ribbon);
+    match laid {
+        Laid::Refused(r) => Wrote::Refused(r),
+        Laid::Ribbon { bands: n, saved } => {
+            let count = n as usize;
+            write_laid(bands, lengths, names, sizes, &ribbon[..count], saved, out)
+        }
+    }
+}
