@@ -80,7 +80,10 @@ pub fn at_the_bound(chance: &mut Chance) -> Vec<Code> {
         with(&middle, c),
         with(&middle, b),
     ];
-    chance.shuffle(&mut codes);
+    // In this order a shorter one exists.
+    if chance.one_in(2) {
+        chance.shuffle(&mut codes);
+    }
     if chance.one_in(3) {
         codes[0].reverse();
     }

@@ -1,4 +1,4 @@
-//! Compares the ribbon program with the reference, on inputs made from a seed.
+//! Compares a program with the reference, on inputs made from a seed.
 
 #![forbid(unsafe_code)]
 
@@ -6,17 +6,26 @@ mod chance;
 mod codes;
 mod damage;
 mod faults;
+mod files;
 mod inputs;
+mod kinds;
 mod limits;
+mod lists;
+mod long_ribbons;
+mod merges;
 mod orders;
+mod outcomes;
+mod programs;
 mod report;
 mod run;
 mod show;
+mod supplied;
 #[cfg(test)]
 mod tests;
 
+use files::Room;
 use inputs::input;
-use reference::ribbon_output;
+use programs::Program;
 use report::Tally;
 use run::{run, Ending};
 use std::io::{self, Write};
@@ -25,13 +34,15 @@ use std::process::ExitCode;
 use std::sync::atomic::{AtomicU64, Ordering};
 use std::thread;
 
-const USAGE: &str = "usage: compare --program PATH [COUNT [SEED]]
-       compare --show NUMBER [SEED]";
+const USAGE: &str = "usage: compare PROGRAM --program PATH [COUNT [SEED]]
+       compare PROGRAM --show NUMBER [SEED]
+PROGRAM is ribbon, sheet or check";
 const COUNT: u64 = 20_000;
 const SEED: u64 = 1;
 
 struct Options {
-    program: PathBuf,
+    program: Program,
+    path: PathBuf,
     show: bool,
     /// How many inputs, or the number of the one to show.
     count: u64,
@@ -44,7 +55,7 @@ fn main() -> ExitCode {
         return ExitCode::from(2);
     };
     let done = match options.show {
-        true => write_input(&options),
+        true => show_input(&options),
         false => compare(&options),
     };
     done.unwrap_or_else(|error| {
@@ -54,10 +65,11 @@ fn main() -> ExitCode {
 }
 
 fn options(mut words: impl Iterator<Item = String>) -> Option<Options> {
-    let (mut program, mut show, mut numbers) = (PathBuf::new(), false, Vec::new());
+    let program = Program::named(&words.next()?)?;
+    let (mut path, mut show, mut numbers) = (PathBuf::new(), false, Vec::new());
     while let Some(word) = words.next() {
         match &word[..] {
-            "--program" => program = words.next()?.into(),
+            "--program" => path = words.next()?.into(),
             "--show" => show = true,
             _ => numbers.push(word.parse().ok()?),
         }
@@ -71,22 +83,33 @@ fn options(mut words: impl Iterator<Item = String>) -> Option<Options> {
     // A run of no inputs would pass whatever the program does.
     (count > 0).then_some(Options {
         program,
+        path,
         show,
         count,
         seed,
     })
 }
 
-fn write_input(options: &Options) -> io::Result<ExitCode> {
-    io::stdout().write_all(&input(options.seed, options.count).bytes)?;
+/// A list as it is, to be handed to a program; files by name, which stay.
+fn show_input(options: &Options) -> io::Result<ExitCode> {
+    let input = input(options.program, options.seed, options.count);
+    let mut out = io::stdout().lock();
+    if options.program == Program::Check {
+        let room = Room::to_keep(&format!("compare-{}-{}", options.seed, options.count))?;
+        let names = room.lay_out(&input.files)?;
+        write!(out, "{}", show::files(&input, &names))?;
+    } else {
+        eprintln!("{}", input.kind);
+        out.write_all(&input.bytes)?;
+    }
     Ok(ExitCode::SUCCESS)
 }
 
 fn compare(options: &Options) -> io::Result<ExitCode> {
-    let tally = run_all(&options.program, options.count, options.seed)?;
+    let tally = run_all(options)?;
     for (number, answer) in &tally.first {
-        let input = input(options.seed, *number);
-        let expected = ribbon_output(&input.bytes);
+        let input = input(options.program, options.seed, *number);
+        let expected = options.program.expected(&input);
         println!("{}", show::difference(*number, &input, &expected, answer));
     }
     println!("{}", tally.summary(options.seed));
@@ -97,30 +120,32 @@ fn compare(options: &Options) -> io::Result<ExitCode> {
 }
 
 /// Two threads take the inputs by turns.
-fn run_all(program: &Path, count: u64, seed: u64) -> io::Result<Tally> {
+fn run_all(options: &Options) -> io::Result<Tally> {
     let next = AtomicU64::new(1);
-    let work = || take_turns(program, count, seed, &next);
+    let work = |worker| take_turns(options, &next, Room::of_worker(worker)?);
     thread::scope(|scope| {
-        let workers = [scope.spawn(work), scope.spawn(work)];
+        let workers = [1, 2].map(|worker| scope.spawn(move || work(worker)));
         let [one, two] = workers.map(|worker| worker.join().expect("it does not panic"));
         Ok(one?.merged(two?))
     })
 }
 
-fn take_turns(program: &Path, count: u64, seed: u64, next: &AtomicU64) -> io::Result<Tally> {
-    let mut tally = Tally::default();
+fn take_turns(options: &Options, next: &AtomicU64, room: Room) -> io::Result<Tally> {
+    let mut tally = Tally::of(options.program);
     loop {
         let number = next.fetch_add(1, Ordering::Relaxed);
-        if number > count {
+        if number > options.count {
             return Ok(tally);
         }
-        let input = input(seed, number);
-        let answer = run(program, &input).map_err(|error| named(program, error))?;
+        let input = input(options.program, options.seed, number);
+        let names = room.lay_out(&input.files)?;
+        let answer =
+            run(&options.path, &names, &input).map_err(|error| named(&options.path, error))?;
         if answer.ending == Ending::TooLate {
             // All others may take as long: begin no more.
-            next.store(count + 1, Ordering::Relaxed);
+            next.store(options.count + 1, Ordering::Relaxed);
         }
-        tally.add(number, &ribbon_output(&input.bytes), answer);
+        tally.add(number, &options.program.expected(&input), answer);
     }
 }
 

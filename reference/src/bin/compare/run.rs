@@ -1,6 +1,7 @@
 //! Running the program under test on one input.
 
 use crate::inputs::Input;
+use std::ffi::OsString;
 use std::io::{self, Read, Write};
 use std::path::Path;
 use std::process::{Child, ChildStdin, ChildStdout, Command, ExitStatus, Stdio};
@@ -27,8 +28,9 @@ pub enum Ending {
     TooLate,
 }
 
-pub fn run(program: &Path, input: &Input) -> io::Result<Answer> {
+pub fn run(program: &Path, arguments: &[OsString], input: &Input) -> io::Result<Answer> {
     let mut child = Command::new(program)
+        .args(arguments)
         .stdin(Stdio::piped())
         .stdout(Stdio::piped())
         .stderr(Stdio::null())

@@ -2,16 +2,12 @@
 
 use crate::inputs::Input;
 use crate::run::{Answer, Ending};
+use std::ffi::OsString;
 
 const SHOWN_LINES: usize = 12;
 const SHOWN_BYTES: usize = 160;
 
 pub fn difference(number: u64, input: &Input, expected: &[u8], answer: &Answer) -> String {
-    let bytes = input.bytes.len();
-    let parts = match input.cut {
-        Some(cut) => format!(", handed over in two parts of {cut} and {}", bytes - cut),
-        None => String::new(),
-    };
     let ending = match &answer.ending {
         Ending::Success => String::new(),
         Ending::Failure(status) => format!(" ({status})"),
@@ -20,12 +16,38 @@ pub fn difference(number: u64, input: &Input, expected: &[u8], answer: &Answer) 
     let pairs = expected.iter().zip(&answer.bytes);
     let alike = pairs.take_while(|(one, other)| one == other).count();
     format!(
-        "input {number} differs ({}, {bytes} bytes{parts}):\n{}  reference: {}\n  program:   {}{ending}",
+        "input {number} differs ({}):\n{}  reference: {}\n  program:   {}{ending}",
         input.kind,
-        lines(&input.bytes),
+        given(input),
         around(expected, alike),
         around(&answer.bytes, alike),
     )
+}
+
+/// An input's files, and the arguments that name them.
+pub fn files(input: &Input, names: &[OsString]) -> String {
+    let names: Vec<String> = names.iter().map(|name| format!("{name:?}")).collect();
+    let (kind, given) = (&input.kind, given(input));
+    format!("{kind}\n{given}arguments: {}\n", names.join(" "))
+}
+
+/// What the program is given: its standard input, or files by name.
+fn given(input: &Input) -> String {
+    let parts = match input.cut {
+        Some(cut) => format!(", in two parts of {cut} and {}", input.bytes.len() - cut),
+        None => String::new(),
+    };
+    let standard = match input.files.is_empty() {
+        true => part(&format!("standard input{parts}"), &input.bytes),
+        false => String::new(),
+    };
+    let numbered = (1..).zip(&input.files);
+    let files = numbered.map(|(number, file)| part(&format!("file {number}"), file.bytes()));
+    standard + &files.collect::<String>()
+}
+
+fn part(name: &str, bytes: &[u8]) -> String {
+    format!("  {name}, {} bytes:\n{}", bytes.len(), lines(bytes))
 }
 
 fn lines(bytes: &[u8]) -> String {
