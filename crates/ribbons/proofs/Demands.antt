@@ -29,7 +29,7 @@ use Rattle.places.proofs.Check.{misses-ours, misses-only}
 use Rattle.places.proofs.Answers.{checks-ours, checks-only}
 use Rattle.ribbons.proofs.Prints.{ribbon-program-ours, ribbon-program-only, sheet-program-ours, sheet-program-only}
 use Rattle.ribbons.proofs.Prints.{check-program-ours, check-program-only}
-use Rattle.ribbons.proofs.OfCalls.{passes-exactly}
+use Rattle.ribbons.proofs.OfCalls.{passes-exactly, sheet-is-true}
 use Rattle.ribbons.specs.Demands.{Pinned, NoFreedom, Demand3, Demands}
 
 pinned : Pinned
@@ -102,6 +102,7 @@ all-demands =
       all-stand = λ cs. each-laid turned turning cs .all-stand;
       adds-up = λ cs. each-laid turned turning cs .adds-up;
       passes-exactly = passes-exactly;
+      sheet-is-true = sheet-is-true;
       reads-back = λ names codes ribbon sheet x printed banded. reads-back x printed banded;
       at-most-twice = demand-3;
       of-the-call = λ run ls before after bands saved p. demand-3-of-call p;

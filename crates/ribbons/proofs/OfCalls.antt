@@ -1,23 +1,36 @@
--- Demand 2 of the check, from nothing but its contract: each answer comes with the case of the claim that gives it.
-use mathlib.Core.Path.{_≡_, refl, ap}
+-- Demand 2 of the check and of the sheet, from nothing but their contracts: each answer comes with the case of the claim
+-- that gives it.
+use mathlib.Core.Path.{_≡_, refl, ap, subst}
+use mathlib.Core.Logic.{inl, inr}
 use mathlib.Core.List.{List}
-use Prim.Native.Nat.{ℕ, _≤_}
+use Prim.Native.Nat.{ℕ, suc, _≤_}
 use native.Mathlib.Omega.{arith}
 use lib.IntN.{ℤ}
 use lib.ListN.{length, length-map}
 use Rattle.words.specs.Turn.{turned}
+use Rattle.words.specs.Lists.{Each}
+use Rattle.words.proofs.Lists.{each-map}
+use Rattle.words.proofs.Turning.{turning}
+use Rattle.words.proofs.Deciding.{holds, passes}
 use Rattle.lists.specs.Runs.{codesIn}
-use Rattle.greedy.specs.Rules.{AllStand}
-use Rattle.greedy.proofs.Laying.{never-stuck-rule}
+use Rattle.lists.specs.Rules.{Band, CodeRule, Printed, NameRule}
+use Rattle.lists.proofs.Rules.{codes-checked, names-checked, is-fit-list, is-fit-names}
+use Rattle.joins.specs.Rules.{Chosen}
+use Rattle.greedy.specs.Rules.{Lays, AllStand}
+use Rattle.greedy.proofs.Claims.{chosen-largest}
+use Rattle.greedy.proofs.Laying.{lays-twice, never-stuck-rule}
+use Rattle.sheets.specs.Answers.{SheetAnswer, SheetOutcome, written, SheetsInto}
+use Rattle.sheets.specs.Answers as sheet
+use Rattle.sheets.proofs.ReadBack.{reads-back}
 use Rattle.places.specs.Check.{Missing, none-missing, missing, all-held}
 use Rattle.places.specs.Answers.{CheckAnswer, CheckOutcome, refused, missing-code, held, Fit, ChecksInto}
 use Rattle.places.specs.Answers.{false-list, long-ribbon, no-colour, no-join, no-place, short-buffer, filled}
-use Rattle.places.specs.Calls.{recordOf, recordsOf, answerOf, ChecksRibbon}
+use Rattle.places.specs.Calls.{recordOf, recordsOf, ChecksRibbon}
 use Rattle.places.specs.declared.Place as declared
 use Rattle.places.specs.declared.Checked.{Checked}
 use Rattle.places.specs.declared.Checked.the-variants as checked
 use Rattle.places.proofs.Check.{missing-one}
-use Rattle.ribbons.specs.Demands.{PassesExactly}
+use Rattle.ribbons.specs.Demands.{PassesExactly, SheetIs, SheetIsTrue}
 
 -- answers told apart by a number
 abbrev kind : CheckAnswer → ℕ
@@ -73,3 +86,43 @@ passes-exactly =
       missing-stands-not = λ run ls row before after k p. missing-stands-not run ls row before after (p .means) refl;
       stands-held = λ run ls row before after r. stands-held run ls row before after r;
     }
+
+-- The sheet: only the last case of the claim answers with one.
+abbrev bytesIn : SheetAnswer → ℕ
+bytesIn (sheet.refused r) = 0
+bytesIn (written bytes saved) = suc bytes
+
+abbrev savedIn : SheetAnswer → ℕ
+savedIn (sheet.refused r) = 0
+savedIn (written bytes saved) = saved
+
+module _ (run ls name-run name-ls before after : List ℕ) (bytes saved : ℕ) where
+  abbrev Is : Type 0
+  Is = SheetIs run ls name-run name-ls before after bytes saved
+
+  sheet-is : {o : SheetOutcome} → SheetsInto run ls name-run name-ls before o → bytesIn (o .answer) ≡ suc bytes
+      → savedIn (o .answer) ≡ saved → after ≡ o .after → Is
+  sheet-is (sheet.false-list f) b s a = absurd (omega arith)
+  sheet-is (sheet.no-join f x) b s a = absurd (omega arith)
+  sheet-is (sheet.short-buffer f x l) b s a = absurd (omega arith)
+  sheet-is (sheet.filled {ribbon} {sheet = t} f x l) b s a =
+      let C = holds (is-fit-list run ls) (passes (codes-checked run ls) (λ h. f (inl h))) in
+      let N = holds (is-fit-names (length ls) name-run name-ls)
+      (passes (names-checked (length ls) name-run name-ls) (λ h. f (inr h))) in
+      let laid = subst (λ (k : ℕ). Lays Chosen turned (codesIn run ls) ribbon k) s (x .lays) in
+      record {
+        ribbon = ribbon;
+        sheet = t;
+        is-long = omega arith;
+        written = a;
+        by-rule = laid;
+        shows = x .shows;
+        read-back =
+            reads-back (x .shows) (each-map NameRule (Each Printed) (λ c r. r .2) (codesIn name-run name-ls) (N .named))
+            (each-map CodeRule (Each Band) (λ c r. r .2) (codesIn run ls) (C .coded));
+        at-most-twice = lays-twice turning (chosen-largest laid);
+      }
+
+pub sheet-is-true : SheetIsTrue
+sheet-is-true run ls name-run name-ls before after bytes saved p =
+    sheet-is run ls name-run name-ls before after bytes saved (p .means) refl refl refl

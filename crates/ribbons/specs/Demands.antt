@@ -11,7 +11,7 @@ use Rattle.words.specs.Turn.{turned, Turning, Turns}
 use Rattle.words.specs.Stand.{StandsSomeWay}
 use Rattle.words.specs.Overlap.{Overlaps, overlap}
 use Rattle.words.specs.Place.{Place, Finds, placeOf}
-use Rattle.lists.specs.Runs.{codesIn, total, lengths}
+use Rattle.lists.specs.Runs.{codesIn, total, lengths, over}
 use Rattle.lists.specs.Rules.{Band, Printed, ChecksCodes, ChecksNames}
 use Rattle.lists.specs.Fit.{listOk, namesOk}
 use Rattle.grammar.specs.Files.{Orders}
@@ -34,6 +34,8 @@ use Rattle.layout.specs.declared.Laid.the-variants.{Ribbon}
 use Rattle.sheets.specs.Sheet.{SheetFor}
 use Rattle.sheets.specs.Answers.{SheetOutcome, written, Sheets, sheetFor, sheetOutcome}
 use Rattle.sheets.specs.ReadBack.{ReadsBack}
+use Rattle.writer.specs.Calls.{WritesSheet}
+use Rattle.writer.specs.declared.Wrote.the-variants.{Sheet}
 use Rattle.places.specs.Check.{Misses, missingOn}
 use Rattle.places.specs.Check as check
 use Rattle.places.specs.Answers.{PlaceRecord, CheckOutcome, Fit, Checks, checkOutcome}
@@ -129,6 +131,24 @@ pub record PassesExactly : Type 0 where
       → AllStand turned (codesIn run ls) row → length ls ≤ length before → ChecksRibbon run ls row before after r
       → (d : ℤ) × (r ≡ Held d)
 
+-- Demand 2 of the sheet itself, and demand 3 of the saved that comes with it: what is written is a sheet of the ribbon that
+-- is laid out by the rules, so that each place on it is true; read back, it gives the names and places of all codes.
+pub record SheetIs (run ls name-run name-ls before after : List ℕ) (bytes saved : ℕ) : Type 0 where
+  pub ribbon : List ℕ
+  pub sheet : List ℕ
+  pub is-long : length sheet ≡ bytes
+  pub written : after ≡ over sheet before
+  pub by-rule : Lays Chosen turned (codesIn run ls) ribbon saved
+  pub shows : SheetFor (codesIn name-run name-ls) (codesIn run ls) ribbon sheet
+  pub read-back : ReadsBack (codesIn name-run name-ls) (codesIn run ls) ribbon sheet
+  pub at-most-twice : AtMostTwice turned (codesIn run ls) saved
+
+abbrev pub SheetIsTrue : Type 0
+SheetIsTrue =
+    (run ls name-run name-ls before after : List ℕ) (bytes saved : ℕ)
+    → WritesSheet run ls name-run name-ls before after (Sheet bytes saved)
+    → SheetIs run ls name-run name-ls before after bytes saved
+
 pub record Demands : Type 0 where
   -- 1. Nothing unfit is accepted, and what is refused leaves lent memory untouched: `reading`, `laying`, `checking` and
   -- `sheets` of the records above. A fit list is accepted, into a buffer of 8,192 bytes, its sheet into one of 16,534; none
@@ -151,6 +171,7 @@ pub record Demands : Type 0 where
   pub adds-up : (cs : List (List ℕ))
       → length (ribbonFor turned cs) + savedBy turned cs ≡ total (lengths (kept turned cs))
   pub passes-exactly : PassesExactly
+  pub sheet-is-true : SheetIsTrue
   pub reads-back : (names codes : List (List ℕ)) (ribbon sheet : List ℕ) → SheetFor names codes ribbon sheet
       → Each (Each Printed) names → Each (Each Band) codes → ReadsBack names codes ribbon sheet
   -- 3. The bound, of our answer and of the call; and of every run of largest joins, whoever settles the ties, for every way
