@@ -4,6 +4,7 @@ mod names;
 mod texts;
 
 pub use codes::list_ok;
+pub use codes::sum_of;
 pub use names::is_taken;
 pub use names::names_ok;
 pub use texts::all_bands;

@@ -3,22 +3,23 @@ use mathlib.Core.Path.{_≡_, refl, ap, _∙_}
 use mathlib.Core.List.{List, [], _∷_, _++_}
 use Prim.Native.Nat.{ℕ, _+_, _-_, _≤_, _<_}
 use native.Mathlib.Numerals.{add-one}
+use native.Mathlib.Nat.{sub-zero}
 use native.Mathlib.Omega.{arith}
 use lib.ListN.{length, take, drop, getD, length-append, length-drop, drop-of-length-le}
 use lib.Seq.{length-take-le, drop-cons, drop-drop}
-use Rattle.words.specs.Written.{Written}
 use Rattle.lists.specs.Runs.{codesIn, total}
 use Rattle.grammar.specs.Files.{comma, lineBreak}
 use Rattle.grammar.specs.Quoting.{fieldText}
+use Rattle.greedy.specs.Dropping.{codeAt}
 use Rattle.parts.proofs.Parts.{from-to}
+use Rattle.parts.proofs.Cutting.{total-part, code-at}
 use Rattle.places.specs.declared.Place as declared
 use Rattle.places.specs.declared.Way.{Way}
 use Rattle.places.specs.declared.Way.the-variants.{Given, Turned}
 use Rattle.sheets.specs.Decimal.{decimal}
 use Rattle.sheets.specs.Sheet.{bandsAt}
-use Rattle.sheets.specs.Placed.{wayRow, wayText, startOf, placedRows, nthPlace, RowsThere}
+use Rattle.sheets.specs.Placed.{wayRow, wayText, startOf, placedRows, nthPlace, nthRow, RowsThere}
 use Rattle.sheets.proofs.Decimal.{decimal-few}
-use Rattle.sheets.proofs.Writing.{Partly, room-for, and-then}
 use Rattle.sheets.proofs.Quoted.{field-few}
 
 -- The pieces from the bands, the comma before them, and the start on.
@@ -130,12 +131,17 @@ module _ {names sizes ls : List ℕ} {ps : List declared.Place} {ribbon : List �
             (r .on-ribbon i h) (omega (arith, name-long)) (r .short i h)
             (omega (arith, r .on-ribbon i h, r .ribbon-short))
 
-      -- written behind those before it
-      module _ {row : List ℕ} {at : ℕ} {whole now : List ℕ} {end : ℕ}
-          (p : Partly row at whole now end (rowsFrom names sizes ls ps ribbon from i)) where
-        pub room-for-row : end + length (rowAt names sizes ls ps ribbon from i) ≤ length now
-        room-for-row = room-for p (rowAt names sizes ls ps ribbon from i) _ rows-next
+-- The row of code i: its name starts where those before it end.
+module _ {names sizes ls : List ℕ} {ps : List declared.Place} {ribbon : List ℕ} (r : RowsThere names sizes ls ps ribbon)
+    (i : ℕ) (h : i < length ls) {from : ℕ} (e : from ≡ total (take (i - 0) (drop 0 sizes))) where
+  start-is : from ≡ total (take i sizes)
+  start-is = e ∙ rw (sub-zero i)
 
-        pub and-then-row : {next : List ℕ} {end' : ℕ} → Written now end (rowAt names sizes ls ps ribbon from i) next end'
-            → Partly row at whole next end' (rowsFrom names sizes ls ps ribbon (from + getD sizes i 0) (i + 1))
-        and-then-row w = and-then p (rowAt names sizes ls ps ribbon from i) _ rows-next w
+  pub nth-name : from + getD sizes i 0 ≤ length names
+  nth-name = omega (arith, start-is, total-part sizes i (omega (arith, r .one-each)), r .names-there)
+
+  pub nth-is : nthRow names sizes ls ps ribbon i ≡ rowAt names sizes ls ps ribbon from i
+  nth-is =
+      let name : codeAt (codesIn names sizes) i ≡ take (from + getD sizes i 0 - from) (drop from names) =
+      code-at names sizes i (omega (arith, r .one-each)) ∙ rw (from-to names from (getD sizes i 0), start-is) in
+      ap (λ (n : List ℕ). wayRow n (getD ls i 0) (nthPlace ps i .way) ribbon) name

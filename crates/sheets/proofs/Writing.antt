@@ -16,7 +16,7 @@ pub record Partly (row : List ℕ) (at : ℕ) (whole now : List ℕ) (end : ℕ)
   pub room : at + length whole ≤ length row
 
 -- writing within a row keeps its length
-written-length : {row : List ℕ} {at : ℕ} {s after : List ℕ} {end : ℕ} → at + length s ≤ length row
+pub written-length : {row : List ℕ} {at : ℕ} {s after : List ℕ} {end : ℕ} → at + length s ≤ length row
     → Written row at s after end → length after ≡ length row
 written-length {row} {at} {s} {after} h w =
     let e : length after ≡ length (take at row ++ (s ++ drop (at + length s) row)) = rw (w .after-is) in

@@ -4,7 +4,8 @@ use Prim.Native.Nat.{ℕ, _+_, _≤_, _<_}
 use mathlib.Core.Path.{_≡_}
 use lib.ListN.{length, getD}
 use Rattle.words.specs.Texts.{text}
-use Rattle.lists.specs.Runs.{total}
+use Rattle.lists.specs.Runs.{codesIn, total}
+use Rattle.greedy.specs.Dropping.{codeAt}
 use Rattle.grammar.specs.Quoting.{fieldText}
 use Rattle.places.specs.Calls.{wayAt}
 use Rattle.places.specs.declared.Place as declared
@@ -40,6 +41,10 @@ startOf (Turned i) = i
 
 abbrev pub nthPlace : List declared.Place → ℕ → declared.Place
 nthPlace ps i = getD ps i (record { code = 0; way = Given 0 })
+
+-- the row of code i
+abbrev pub nthRow : (names sizes ls : List ℕ) → List declared.Place → List ℕ → ℕ → List ℕ
+nthRow names sizes ls ps ribbon i = placedRow (codeAt (codesIn names sizes) i) (getD ls i 0) (nthPlace ps i) ribbon
 
 -- Names, lengths and records are there for each code, and each place lies on the ribbon.
 pub record RowsThere (names sizes ls : List ℕ) (ps : List declared.Place) (ribbon : List ℕ) : Type 0 where

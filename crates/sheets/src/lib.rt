@@ -6,5 +6,5 @@ mod sizes;
 
 pub use numbers::put_decimal;
 pub use rows::put_heading;
-pub use rows::put_rows;
+pub use rows::put_nth;
 pub use sizes::sheet_size;

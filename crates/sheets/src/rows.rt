@@ -1,13 +1,13 @@
 // The rows of a sheet.
-ghost use Prim.Native.Nat.{_+_, _≤_};
+ghost use Prim.Native.Nat.{_+_, _<_, _≤_};
 ghost use mathlib.Core.Path.{_≡_};
 ghost use lib.ListN.{length};
 ghost use Rattle.words.specs.Written.{Written};
-ghost use Rattle.lists.specs.Runs.{codesIn};
 ghost use Rattle.sheets.specs.Sheet.{rowText, sheetHeading};
-ghost use Rattle.sheets.specs.Placed.{RowsThere, wayText, startOf, wayRow, placedRows};
+ghost use Rattle.sheets.specs.Placed.{RowsThere, wayText, startOf, wayRow, nthRow};
 use crate::fields::put_field;
 use crate::numbers::put_decimal;
+use lists::sum_of;
 use places::Place;
 use places::Way;
 
@@ -55,30 +55,24 @@ fn put_row(name: &[u8], n: usize, way: Way, ribbon: &[u8], out: &mut [u8], at: u
     words::put_word(b"\r\n", out, end)
 }
 
-// The rows of all codes are written, one after the other, from `at` on; the answer is the place behind them.
-pub fn put_rows(
+// The row of code i is written from `at` on; the answer is the place behind it. The name starts behind those before it.
+pub fn put_nth(
     names: &[u8],
     sizes: &[u16],
     lengths: &[u16],
     records: [Place; 128],
     ribbon: &[u8],
+    i: usize,
     out: &mut [u8],
     at: usize,
 ) -> usize
-    requires { ⌜ RowsThere (now names) (now sizes) (now lengths) records (now ribbon) × (at + length (placedRows (codesIn (now names) (now sizes)) (now lengths) records (now ribbon)) ≤ length (now out)) ⌝ }
-    ensures { λ r. ⌜ Written (now (out .entry)) at (placedRows (codesIn (now (names .entry)) (now (sizes .entry))) (now (lengths .entry)) records (now (ribbon .entry))) (now (out .exit)) r ⌝ }
+    requires { ⌜ RowsThere (now names) (now sizes) (now lengths) records (now ribbon) × (i < length (now lengths)) × (at + length (nthRow (now names) (now sizes) (now lengths) records (now ribbon) i) ≤ length (now out)) ⌝ }
+    ensures { λ r. ⌜ Written (now (out .entry)) at (nthRow (now (names .entry)) (now (sizes .entry)) (now (lengths .entry)) records (now (ribbon .entry)) i) (now (out .exit)) r ⌝ }
 {
-    let mut end = at;
-    let mut from: usize = 0;
-    let mut i = 0;
-    while i < lengths.len() {
-        let to = from + sizes[i] as usize;
-        let n = lengths[i] as usize;
-        let place = records[i];
-        let way = place.way;
-        end = put_row(&names[from..to], n, way, ribbon, out, end);
-        from = to;
-        i += 1;
-    }
-    end
+    let from = sum_of(&sizes[0..i]);
+    let to = from + sizes[i] as usize;
+    let n = lengths[i] as usize;
+    let place = records[i];
+    let way = place.way;
+    put_row(&names[from..to], n, way, ribbon, out, at)
 }

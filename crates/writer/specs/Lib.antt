@@ -1,2 +1,3 @@
--- What the call that writes a sheet promises.
+-- What the calls that write a sheet promise, and what the writer is that they carry.
 pub mod Calls
+pub mod Filled
