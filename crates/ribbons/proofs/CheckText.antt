@@ -1,37 +1,34 @@
 -- The line of a check is the line of its answer: a fit list is not refused, none gets stuck, and there is room for all of
--- its records.
+-- its records. So each answer that is left is one for which the program's claim has the line.
 use mathlib.Core.Path.{_≡_, refl, sym, ap, subst, _∙_}
-use mathlib.Core.Bool.{Bool, true, false, not}
-use mathlib.Core.List.{List, map}
-use Prim.Native.Nat.{ℕ, zero, suc, _≤_}
+use mathlib.Core.Bool.{true}
+use mathlib.Core.List.{List, []}
+use Prim.Native.Nat.{ℕ, _≤_}
 use native.Mathlib.Omega.{arith}
-use lib.Dec.{eqb, ltb}
 use lib.IntN.{ℤ}
 use lib.ListN.{length, replicate, length-replicate, length-map}
-use borrow.Author.Tests.{le-ltb}
 use mir.Syntax.{w32}
 use mir.Val.{SFits, toZ, ofZ}
 use mir.ValLaws.{toZ-ofZ}
-use Rattle.words.specs.Turn.{turned}
-use Rattle.words.proofs.Turning.{turning}
 use Rattle.words.proofs.Deciding.{holds}
-use Rattle.lists.specs.Refusals.{whole, longRibbon, unknownColour, shortBuffer, when, firstOf}
-use Rattle.lists.specs.Outcome.{outcome}
+use Rattle.lists.specs.Refusals.{longRibbon, unknownColour}
 use Rattle.lists.specs.Runs.{codesIn, over}
-use Rattle.lists.specs.Fit.{listOk, allBands}
-use Rattle.lists.proofs.Rules.{is-fit-list}
+use Rattle.lists.specs.Fit.{listOk}
+use Rattle.lists.proofs.Rules.{codes-checked, is-fit-list}
 use Rattle.grammar.specs.RibbonFile.{ribbonOf}
-use Rattle.greedy.specs.Layout.{ribbonFor}
-use Rattle.greedy.proofs.Claims.{each-laid}
-use Rattle.places.specs.Check.{Missing, none-missing, missing, missingOn}
-use Rattle.places.specs.Answers.{CheckAnswer, refused, missing-code, held, PlaceRecord, CheckOutcome, less, recordsFrom}
-use Rattle.places.specs.Answers.{suppliedFault, checkOutcome}
+use Rattle.greedy.proofs.Laying.{never-stuck-rule}
+use Rattle.places.specs.Answers.{CheckAnswer, refused, missing-code, held, PlaceRecord, CheckOutcome, ChecksInto}
+use Rattle.places.specs.Answers.{false-list, long-ribbon, no-colour, no-join, no-place, short-buffer, filled}
 use Rattle.places.specs.Calls.{recordOf, answerOf, ChecksAlone}
 use Rattle.places.specs.declared.Place as declared
 use Rattle.places.specs.declared.Way.the-variants.{Given}
 use Rattle.places.specs.declared.Checked.{Checked}
 use Rattle.places.specs.declared.Checked.the-variants.{Held}
-use Rattle.ribbons.specs.Programs.{refusedLine, heldLine, missingLine, foundLine, checkedLine, WritesOver}
+use Rattle.sheets.proofs.Decimal.{digits-ours}
+use Rattle.ribbons.specs.Programs.{refusedLine, heldLine, missingLine, checkedLine, WritesOver}
+use Rattle.ribbons.specs.Prints.{CheckLine}
+use Rattle.ribbons.specs.Prints as p
+use Rattle.ribbons.proofs.Prints.{line-ours, signed-ours, check-line-only}
 use Rattle.ribbons.proofs.Outputs.{writes-over}
 
 abbrev pub lineOf : CheckAnswer → List ℕ
@@ -39,64 +36,28 @@ lineOf (refused r) = refusedLine r
 lineOf (missing-code k) = missingLine k
 lineOf (held d) = heldLine d
 
-none-after : (n : ℕ) → firstOf n 0 ≡ n
-none-after zero = refl
-none-after (suc n) = refl
-
+-- each case of the claim on a check is a case of the claim on the program's line
 module _ (run ls row : List ℕ) (ok : listOk run ls ≡ true) where
   abbrev codes : List (List ℕ)
   codes = codesIn run ls
 
-  abbrev difference : ℤ
-  difference = less (length row) (length (ribbonFor turned codes))
-
-  -- the ribbon's own fault is the fault of both
-  abbrev ribbonFault : ℕ
-  ribbonFault = firstOf (when (ltb 16384 (length row)) longRibbon) (when (not (allBands row)) unknownColour)
-
-  same-fault : suppliedFault run ls row ≡ ribbonFault
-  same-fault =
-      let e = each-laid turned turning codes .never-found-stuck in
-      let z = none-after (when (not (allBands row)) unknownColour) in
-      rw (suppliedFault, ok, e, z)
-
-  module _ (records : List PlaceRecord) where
-    -- the outcome by the fault, the test that it is none, missing codes and the test of the records
-    abbrev outcomeBy : ℕ → Bool → Missing → Bool → CheckOutcome
-    outcomeBy f none m short = elim none [
-      | false ↦ outcome (refused (whole f)) records
-      | true ↦ elim m [
-        | missing k ↦ outcome (missing-code k) records
-        | none-missing ↦ elim short [
-          | true ↦ outcome (refused (whole shortBuffer)) records
-          | false ↦ outcome (held difference) (over (recordsFrom 0 codes row) records)
-        ]
-      ]
-    ]
-
-    line-by : (f : ℕ) (none : Bool) (m : Missing)
-        → lineOf (outcomeBy f none m false .answer) ≡ elim none [ true ↦ foundLine difference m | false ↦ refusedLine (whole f) ]
-    line-by f false m = refl
-    line-by f true none-missing = refl
-    line-by f true (missing k) = refl
-
-    line-of-outcome : 128 ≤ length records → lineOf (checkOutcome run ls row records .answer) ≡ checkedLine codes row
-    line-of-outcome room =
-        let few = holds (is-fit-list run ls) ok .at-most in
-        let roomy = le-ltb (length records) (length ls) (omega arith) in
-        let m = missingOn turned codes row in
-        ap (λ (f : ℕ). lineOf (outcomeBy f (eqb f 0) m (ltb (length records) (length ls)) .answer)) same-fault
-        ∙ ap (λ (s : Bool). lineOf (outcomeBy ribbonFault (eqb ribbonFault 0) m s .answer)) roomy
-        ∙ line-by ribbonFault (eqb ribbonFault 0) m
+  line-of : {records : List PlaceRecord} {o : CheckOutcome} → 128 ≤ length records → ChecksInto run ls row records o
+      → CheckLine row [] codes (lineOf (o .answer))
+  line-of room (false-list f) = absurd (holds (codes-checked run ls) ok f)
+  line-of room (long-ribbon fit l) = p.long-ribbon l (line-ours longRibbon 0)
+  line-of room (no-colour fit l b) = p.no-colour l b (line-ours unknownColour 0)
+  line-of room (no-join fit s) = absurd (never-stuck-rule s)
+  line-of room (no-place {k} fit m) = p.missing-line (fit .long) (fit .bands) m (digits-ours k)
+  line-of room (short-buffer fit a l) = absurd (omega (arith, holds (is-fit-list run ls) ok .at-most))
+  line-of room (filled {d = d} rs fit a l x y z) = p.held-line (fit .long) (fit .bands) a x y (signed-ours d)
 
   -- a check with room for 128 records gives the answer
   line-is : {r : Checked} → ChecksAlone run ls row r → lineOf (answerOf r) ≡ checkedLine codes row
-  line-is p =
+  line-is h =
       let one : declared.Place = record { code = 0; way = Given 0 } in
       let blank : List declared.Place = replicate 128 one in
       let long = length-replicate 128 one in
-      ap lineOf (p .checks blank (omega arith) .answer)
-      ∙ line-of-outcome (map recordOf blank) (omega (arith, length-map blank recordOf))
+      check-line-only row [] codes (line-of (omega (arith, length-map blank recordOf)) (h .checks blank (omega arith) .means))
 
   pub check-written : {r x : Checked} {before after : List ℕ} {n : ℕ} → ChecksAlone run ls row r → r ≡ x
       → (n ≡ length (lineOf (answerOf x))) × (after ≡ over (lineOf (answerOf x)) before)

@@ -39,7 +39,7 @@ use Rattle.ribbons.specs.Programs.{refusedLine, ofList, ribbonOutput, sh
 use Rattle.ribbons.specs.Prints as p
 
 -- lines of refusals
-line-ours : (n row : ℕ) → p.RefusedLine n row (refusedLine (refusal n row))
+pub line-ours : (n row : ℕ) → p.RefusedLine n row (refusedLine (refusal n row))
 line-ours n row = p.refused-line (digits-ours n) (digits-ours row)
 
 line-only : {n row : ℕ} {t : List ℕ} → p.RefusedLine n row t → t ≡ refusedLine (refusal n row)
@@ -99,7 +99,7 @@ pub sheet-program-only : (program : List ℕ → List ℕ) → p.SheetProgram pr
 sheet-program-only program h list = prints-only p.SheetRows (λ x. sheetText (x .names) (x .codes)) list (λ ns cs t x. sheet-rows-only x) (h list)
 
 -- the difference, and the line of a check by its tests: of the ribbon's length and bands, and of missing codes
-signed-ours : (d : ℤ) → p.Signed d (signed d)
+pub signed-ours : (d : ℤ) → p.Signed d (signed d)
 signed-ours (pos n) = p.at-least-0 (digits-ours n)
 signed-ours (negsuc n) = p.below-0 (digits-ours (suc n))
 
@@ -138,7 +138,7 @@ module _ (row : List ℕ) (names codes : List (List ℕ)) where
   fits : length row ≤ 16384 → ltb 16384 (length row) ≡ false
   fits l = refuses (is-lt 16384 (length row)) (λ h. omega arith)
 
-  check-line-only : {t : List ℕ} → p.CheckLine row names codes t → t ≡ checkedLine codes row
+  pub check-line-only : {t : List ℕ} → p.CheckLine row names codes t → t ≡ checkedLine codes row
   check-line-only (p.long-ribbon l r) =
       line-only r ∙ sym (if-tests true _ _ (passes (is-lt 16384 (length row)) l) refl refl)
   check-line-only (p.no-colour l b r) = line-only r ∙ sym (if-tests false false _ (fits l) (refuses (all-bands row) b) refl)

@@ -1,8 +1,6 @@
--- A `&κ mut [T]` that is lent again for a lifetime κ′ of a call, and comes back: `Denote/Lend.antt`'s `lends-again` and `comes-back`, of a slice.
---     LentAgain        what the holder keeps while the slice is lent again under the name γ₁: the lender's part at κ′, and its own borrow at κ, open, with both halves of its ghost variable
---     lends-again      own (the `&κ mut [T]` ((b, o), γ, ys)) ∗ [κ]_q  ⊢ ⇛ ∃ γ₁. own (the `&κ′ mut [T]` ((b, o), γ₁, ys)) ∗ LentAgain γ₁
---     comes-back       given `Room` and that zs is as long as ys:  [†κ′] ∗ LentAgain γ₁ ∗ finally γ₁ zs  ⊢ ⇛ (own (the `&κ mut [T]` ((b, o), γ, zs)) ∗ [κ]_q)
--- Assumes `Given`.
+-- A slice that is borrowed for writing is lent again for the time of a call, and comes back with what the call has left in it.
+-- `lends-again` makes the callee's borrow of ours; `LentAgain` is what we keep meanwhile, the lender's part and our own borrow,
+-- open; `comes-back` closes ours at the list that the call has left. Made after the kit's example of a writer.
 use mathlib.Core.Path.{_≡_, sym, ap, subst}
 use Prim.Native.Nat.{ℕ}
 use mathlib.Core.List.{List, [], _∷_}

@@ -1,4 +1,5 @@
--- What a writer's texts are on its slice. Texts one after the other are one text; no text changes nothing; and the slice stays as long as it was.
+-- What a writer's texts are on its slice. Texts one after the other are one text; no text changes nothing; and the slice
+-- stays as long as it was.
 use mathlib.Core.Path.{_≡_, refl}
 use mathlib.Core.List.{List, [], _++_}
 use Prim.Native.Nat.{ℕ, _+_, _≤_}

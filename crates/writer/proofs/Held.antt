@@ -1,9 +1,7 @@
--- What a proof has at exit of a `Writer` that was passed by value, in a signature of one lifetime or more, whose first is the writer's. Each function that takes one cites this.
---     slots            the struct's fields, as places of the signature
---     held, held-goes  of a choice for each field: what is had of the struct at exit (`Denote/Triple/Walked.antt`'s `Stay`), and the law for it, from the fields' laws
---     writer-stay      the borrow is still owned, at its last list.        writer-stay-goes      the law for it
---     writer-spent     the result names the struct's lifetime: nothing is said of a last list.        writer-spent-goes      the law for it
--- The laws take `Given`. The rest assumes nothing.
+-- What a walk has at its exit of a `Writer` that was passed by value, in a signature of one lifetime or more, the first of
+-- which is the writer's. `slots` are the struct's fields as places of the signature; `held` is what is had of the struct, by a
+-- choice for each field, and `held-goes` the law for it. `writer-stay`: the borrow is still owned, at its last list.
+-- `writer-spent`: the result names the struct's lifetime, and nothing is said of a last list.
 use mathlib.Core.Path.{refl}
 use Prim.Native.Nat.{ℕ, suc}
 use mathlib.Core.List.{List, [], _∷_}

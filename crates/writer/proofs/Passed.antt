@@ -1,11 +1,12 @@
--- What names, sizes, lengths, records and ribbon own, the parameters that a sheet is written from, and how a walk passes them on to a callee that takes them in that order: it keeps what the four slices own, and of it makes what the callee's parameters own, as often as there are calls.
+-- What names, sizes, lengths, records and ribbon own, the parameters that a sheet is written from, and how a walk passes
+-- them on to a callee that takes them in that order: it keeps what the four slices own, and of it makes what the callee's
+-- parameters own, as often as there are calls.
 --     Slices       what the four slices own
 --     Five Q       what the five parameters own, with Q for those behind them
 --     five-apart   Five Q  ⊢  Q ∗ Slices
 --     five-made    Q ∗ Slices  ⊢  Five Q ∗ Slices
 --     Four         the tokens of the slices' lifetimes.        Ending     the same with one more lifetime, at the end
 --     token-put, token-taken     the token of that one, put at the end and taken out again
--- The laws take `Given`. The rest assumes nothing.
 use Prim.Native.Nat.{ℕ}
 use mathlib.Core.List.{[], _∷_, List}
 use lib.ListN.{length}

@@ -1,6 +1,8 @@
--- `writer::page::heading` meets its contract: a walk of its MIR, by hand. The slice is lent again to `put_heading`, for a lifetime that is made for the call, and comes back at the list that `put_heading` left (`Again.antt`). It goes into the result, beside the mark that `put_heading` returned.
--- All that the proof knows of `put_heading` is that it meets its contract. The parameter is spent, since the result names its lifetime (`Held.antt`'s `writer-spent`).
--- Assumes nothing.
+-- `writer::page::heading` meets its contract: a walk of its MIR, by hand. The slice is lent again to `put_heading`, for a
+-- lifetime that is made for the call, and comes back at the list that `put_heading` left (`Again.antt`). It goes into the
+-- result, beside the mark that `put_heading` returned.
+-- All that the proof knows of `put_heading` is that it meets its contract. The parameter is spent, since the result names
+-- its lifetime (`Held.antt`'s `writer-spent`).
 use mathlib.Core.Path.{_≡_, refl, ap}
 use Prim.Native.Nat.{ℕ, _<_, _≤_, _^_, _+_}
 use mathlib.Core.List.{[], _∷_, List}
@@ -134,7 +136,8 @@ module _ {M : Type 1} (𝓤 : URA M) (H : Heap 𝓤) (A : Atoms 𝓤) (W : Given
         assigns ! (addr ! (from ! (fld ! refl (fld ! refl (hop ! (look-in ! 12 (sub ! 0 refl (sub ! 0 refl (whole !)))) (stop !)))))) (from ! (stop !)) (init ! 6 refl (tt, tt)) $
         assigns ! (agg ! (and-then ! (load ! (from ! (stop !)) (look ! 6 refl)) (and-then ! (load ! (from ! (fld ! refl (fld ! refl (stop !)))) (look-in ! 12 (sub ! 1 refl (sub ! 0 refl (whole !))))) (no-more !)))) (from ! (stop !)) (init ! 4 refl (tt, (tt, (record { fits = room .0 }, tt)))) $
         move ! (17 ∷ []) $ fsplit ! $ use1 W (given (mach n ∷ [] ≡ mach n ∷ []) (‵ (all-own (T.the-type α .parts) (T′.the-laws α) (x γ ys, (n, tt))))) (own-open 𝓤 H A W (T.the-type α) (T′.the-laws α) (x γ ys, (n, tt)) (mach n)) $ learn ! (λ _. fsplit ! $
-        -- [what out's borrow owns; what mark owns; true; _7; …; the token]: the slice is lent again, for a lifetime ν of the call
+        -- [what out's borrow owns; what mark owns; true; _7; …; the token]: the slice is lent again, for a lifetime ν of
+        -- the call
         move ! (19 ∷ []) $ split ! $ lft-new ! tt (λ ν. move ! (3 ∷ 1 ∷ []) $
         use2 W (later (some (λ (δ : GName). ‵ (MutSlice (named 0) (ν ∷ []) u8 .own (x δ ys) (s ∷ [])) ⊛ ‵ (LentAgain u8 κ (ν ∷ []) q γ b o δ ys)))) (lends-again u8 κ (ν ∷ []) q γ b o 𝓤 H A W (named 0) (named 0) ys) $ await ! tt $ pick ! (λ δ. split ! $
         move ! (2 ∷ 0 ∷ []) $ use2 W (raw (PutHeading 𝓤 H A mem run .pre (to ν δ))) (goes ν δ asked) $

@@ -1,6 +1,8 @@
--- `writer::page::put_sheet` meets its contract: a walk of its MIR, by hand. All that it knows of `begin`, `heading` and `rows` is that each meets its contract.
--- Each is called at the borrow's own lifetime, share and ghost name: what the first two return is, by their contracts, a record that is known whole, pointer and ghost name with it, so what `rows` says of the last list is said of `out`'s. The borrow is given up for good (`gave-slice`). `rows` gets copies of the other slices (`Passed.antt`).
--- Assumes nothing.
+-- `writer::page::put_sheet` meets its contract: a walk of its MIR, by hand. All that it knows of `begin`, `heading` and
+-- `rows` is that each meets its contract.
+-- Each is called at the borrow's own lifetime, share and ghost name: what the first two return is, by their contracts, a
+-- record that is known whole, pointer and ghost name with it, so what `rows` says of the last list is said of `out`'s. The
+-- borrow is given up for good (`gave-slice`). `rows` gets copies of the other slices (`Passed.antt`).
 use mathlib.Core.Path.{_≡_, refl, sym, _∙_, ap, subst}
 use Prim.Native.Nat.{ℕ, _+_, _≤_}
 use native.Mathlib.Omega.{arith}
@@ -159,7 +161,8 @@ module _ {M : Type 1} (𝓤 : URA M) (H : Heap 𝓤) (A : Atoms 𝓤) (W : Given
   abbrev Post : Val → SProp 𝓤
   Post = walkOf 𝓤 H A put-sheet.ended stayed (put-sheet.clauses 𝓤 H A mem run) .post ((κs, qs, tt, a, vals), tt)
 
-  -- the tokens: of the writer's lifetime as the first two callees take it; in the order of `rows`; and in that of `put_sheet`
+  -- the tokens: of the writer's lifetime as the first two callees take it; in the order of `rows`; and in that of
+  -- `put_sheet`
   abbrev Tok : Item 𝓤
   Tok = ‵ (flft κ q) ⊛ ‵ ftrue
 
@@ -236,7 +239,8 @@ module _ {M : Type 1} (𝓤 : URA M) (H : Heap 𝓤) (A : Atoms 𝓤) (W : Given
         alloc1 ! (λ l₀. alloc1 ! (λ l₁. alloc1 ! (λ l₂. alloc1 ! (λ l₃. alloc1 ! (λ l₄. alloc1 ! (λ l₅. alloc1 ! (λ l₆. alloc1 ! (λ l₇. alloc1 ! (λ l₈. alloc1 ! (λ l₉. alloc1 ! (λ l₁₀. alloc1 ! (λ l₁₁. alloc0 ! $ params1 ! $
         pass1 ! (init ! 20 refl (tt, (tt, (record { fits = room₀ .0 }, tt)))) $ pass1 ! (init ! 18 refl (tt, (tt, (record { fits = room₁ .0 }, tt)))) $ pass1 ! (init ! 16 refl (tt, (tt, (record { fits = room₂ .0 }, tt)))) $
         pass1 ! (init ! 14 refl (array-lawful 𝓤 H A W P.the-row (LL.lawful P.the-type P′.the-laws 𝓤 H A W) 128 .typed xs _ xs-is .0)) $ pass1 ! (init ! 12 refl (tt, (tt, (record { fits = room₃ .0 }, tt)))) $ pass1 ! (init ! 10 refl (tt, (tt, (record { fits = room .0 }, tt)))) $ pass0 ! $
-        -- [_11; …; _10; …; _9; …; _8; …; _7; …; _6; …; _5; …; _4; …; _3; …; _2; …; _1; …; room for _0; …; the tokens; what the parameters own]
+        -- [_11; …; _10; …; _9; …; _8; …; _7; …; _6; …; _5; …; _4; …; _3; …; _2; …; _1; …; room for _0; …; the tokens; what
+        -- the parameters own]
         assigns ! (addr ! (from ! (fld ! refl (hop ! (look-in ! 10 (sub ! 0 refl (whole !))) (stop !))))) (from ! (stop !)) (init ! 4 refl (tt, tt)) $
         assigns ! (agg ! (and-then ! (load ! (from ! (stop !)) (look ! 4 refl)) (and-then ! (load ! (from ! (fld ! refl (stop !))) (look-in ! 10 (sub ! 1 refl (whole !)))) (no-more !)))) (from ! (stop !)) (init ! 2 refl (tt, (tt, (record { fits = room .0 }, tt)))) $
         move ! (25 ∷ []) $ use1 W (‵ (fsep Out ftrue) ⊛ ‵ Shared) (five-apart κ₀ κ₁ κ₂ κ₃ x₀ x₁ x₂ xs x₃ 𝓤 H A W (fsep Out ftrue)) $ split ! $ fsplit ! $
@@ -259,7 +263,8 @@ module _ {M : Type 1} (𝓤 : URA M) (H : Heap 𝓤) (A : Atoms 𝓤) (W : Given
         assigns ! (of-opd ! (load ! (from ! (stop !)) (look ! 13 refl))) (from ! (stop !)) (init ! 5 refl (typed h₁ w₁ is₁)) $
         -- [what the writer owns; its token; the other tokens; true; the slices; _11; …]: `rows`
         move ! (1 ∷ []) $ split ! $ move ! (0 ∷ 3 ∷ []) $ join ! $ move ! (0 ∷ 2 ∷ 4 ∷ []) $ use3 W (raw (Rows 𝓤 H A mem run .pre (to-rows w₁)) ⊛ ‵ Shared) (goes-rows w₁) $ split ! $
-        -- [what `rows` asks; the slices; true; true; _11; …; _10; …; _9; …; _8; …; _7; …; _6; …; _5; …; _4; …; _3; …; _2; …; _1; …; room for _0; …]
+        -- [what `rows` asks; the slices; true; true; _11; …; _10; …; _9; …; _8; …; _7; …; _6; …; _5; …; _4; …; _3; …; _2;
+        -- …; _1; …; room for _0; …]
         calls-at ! fm (Rows 𝓤 H A mem run) known-rows (to-rows w₁) (and-then ! (load ! (from ! (stop !)) (look ! 4 refl)) (and-then ! (load ! (from ! (stop !)) (look ! 24 refl)) (and-then ! (load ! (from ! (stop !)) (look ! 22 refl)) (and-then ! (load ! (from ! (stop !)) (look ! 20 refl))
         (and-then ! (load ! (from ! (stop !)) (look ! 18 refl)) (and-then ! (load ! (from ! (stop !)) (look ! 16 refl)) (no-more !))))))) (λ w.
         use1 W (later (some (λ (r : ℕ). (Toks′ ⊛ ‵ (usize .own r (w ∷ []))) ⊛ raw (ensured 𝓤 H A rows.ended (rows.clauses 𝓤 H A mem run) κs′ args tt r)))) (id⊢ 𝓤 _) $ await ! tt $ pick ! (λ r.

@@ -1,6 +1,8 @@
--- `writer::page::row` meets its contract: a walk of its MIR, by hand. The slice is lent again to `put_nth`, for a lifetime that is made for the call, and comes back at the list that `put_nth` left (`Again.antt`). It goes into the result, beside the mark that `put_nth` returned. Of the other slices `put_nth` gets copies (`Passed.antt`).
--- All that the proof knows of `put_nth` is that it meets its contract. The parameter is spent, since the result names its lifetime (`Held.antt`'s `writer-spent`).
--- Assumes nothing.
+-- `writer::page::row` meets its contract: a walk of its MIR, by hand. The slice is lent again to `put_nth`, for a lifetime
+-- that is made for the call, and comes back at the list that `put_nth` left (`Again.antt`). It goes into the result, beside
+-- the mark that `put_nth` returned. Of the other slices `put_nth` gets copies (`Passed.antt`).
+-- All that the proof knows of `put_nth` is that it meets its contract. The parameter is spent, since the result names its
+-- lifetime (`Held.antt`'s `writer-spent`).
 use mathlib.Core.Path.{_≡_, refl, ap}
 use Prim.Native.Nat.{ℕ, _<_, _≤_, _^_, _+_}
 use mathlib.Core.List.{[], _∷_, List}
@@ -198,19 +200,22 @@ module _ {M : Type 1} (𝓤 : URA M) (H : Heap 𝓤) (A : Atoms 𝓤) (W : Given
         pass1 ! (init ! 24 refl (LL.lawful (T.the-type α) (T′.the-laws α) 𝓤 H A W .typed h _ g .0)) $
         pass1 ! (init ! 22 refl (tt, (tt, (record { fits = room₀ .0 }, tt)))) $ pass1 ! (init ! 20 refl (tt, (tt, (record { fits = room₁ .0 }, tt)))) $ pass1 ! (init ! 18 refl (tt, (tt, (record { fits = room₂ .0 }, tt)))) $
         pass1 ! (init ! 16 refl (array-lawful 𝓤 H A W P.the-row (LL.lawful P.the-type P′.the-laws 𝓤 H A W) 128 .typed xs _ xs-is .0)) $ pass1 ! (init ! 14 refl (tt, (tt, (record { fits = room₃ .0 }, tt)))) $ pass1 ! (init ! 12 refl (tt, record { fits = i-fits })) $ pass0 ! $
-        -- [_13; …; _12; …; _11; …; _10; …; _9; …; _8; …; _7; …; _6; …; _5; …; _4; …; _3; …; _2; …; _1; …; room for _0; …; the tokens; what the parameters own]
+        -- [_13; …; _12; …; _11; …; _10; …; _9; …; _8; …; _7; …; _6; …; _5; …; _4; …; _3; …; _2; …; _1; …; room for _0; …;
+        -- the tokens; what the parameters own]
         assigns ! (of-opd ! (load ! (from ! (fld ! refl (stop !))) (look-in ! 24 (sub ! 1 refl (whole !))))) (from ! (stop !)) (init ! 10 refl (tt, record { fits = n-fits })) $
         assigns ! (addr ! (from ! (fld ! refl (fld ! refl (hop ! (look-in ! 24 (sub ! 0 refl (sub ! 0 refl (whole !)))) (stop !)))))) (from ! (stop !)) (init ! 6 refl (tt, tt)) $
         assigns ! (agg ! (and-then ! (load ! (from ! (stop !)) (look ! 6 refl)) (and-then ! (load ! (from ! (fld ! refl (fld ! refl (stop !)))) (look-in ! 24 (sub ! 1 refl (sub ! 0 refl (whole !))))) (no-more !)))) (from ! (stop !)) (init ! 4 refl (tt, (tt, (record { fits = room .0 }, tt)))) $
         move ! (29 ∷ []) $ fsplit ! $ use1 W (given (mach n ∷ [] ≡ mach n ∷ []) (‵ (all-own (T.the-type α .parts) (T′.the-laws α) (x γ ys, (n, tt))))) (own-open 𝓤 H A W (T.the-type α) (T′.the-laws α) (x γ ys, (n, tt)) (mach n)) $ learn ! (λ _. fsplit ! $
         -- [what out's borrow owns; what mark owns; what the others own; _13; …; the tokens]
         move ! (2 ∷ []) $ use1 W (‵ (fsep (Number i) ftrue) ⊛ ‵ Shared) (five-apart κ₀ κ₁ κ₂ κ₃ x₀ x₁ x₂ xs x₃ 𝓤 H A W (fsep (Number i) ftrue)) $ split ! $ drop ! $
-        -- [the slices; what out's borrow owns; what mark owns; _13; …; the tokens]: the slice is lent again, for a lifetime ν of the call
+        -- [the slices; what out's borrow owns; what mark owns; _13; …; the tokens]: the slice is lent again, for a lifetime
+        -- ν of the call
         move ! (31 ∷ []) $ split ! $ lft-new ! tt (λ ν. move ! (4 ∷ 1 ∷ []) $
         use2 W (later (some (λ (δ : GName). ‵ (Out (ν ∷ []) δ ys) ⊛ ‵ (LentAgain u8 κ (ν ∷ []) q γ b o δ ys)))) (lends-again u8 κ (ν ∷ []) q γ b o 𝓤 H A W (named 0) (named 0) ys) $ await ! tt $ pick ! (λ δ. split ! $
         -- [the slice lent again; what takes it back; ν's token; the other tokens; the slices; what mark owns; _13; …]
         move ! (2 ∷ 3 ∷ []) $ join ! $ move ! (0 ∷ 1 ∷ 3 ∷ []) $ use3 W (raw (PutNth 𝓤 H A mem run .pre (to ν δ)) ⊛ ‵ Shared) (hands ν δ) $ split ! $
-        -- [what `put_nth` asks; the slices; what takes it back; what mark owns; _13; …; _12; …; _11; …; _10; …; _9; …; _8; …; _7; …; _6; …; _5; …; _4; …; _3; …; _2; …; _1; …; room for _0; …]
+        -- [what `put_nth` asks; the slices; what takes it back; what mark owns; _13; …; _12; …; _11; …; _10; …; _9; …; _8;
+        -- …; _7; …; _6; …; _5; …; _4; …; _3; …; _2; …; _1; …; room for _0; …]
         calls-at ! fm (PutNth 𝓤 H A mem run) known (to ν δ) (and-then ! (load ! (from ! (stop !)) (look ! 26 refl)) (and-then ! (load ! (from ! (stop !)) (look ! 24 refl)) (and-then ! (load ! (from ! (stop !)) (look ! 22 refl)) (and-then ! (load ! (from ! (stop !)) (look ! 20 refl))
         (and-then ! (load ! (from ! (stop !)) (look ! 18 refl)) (and-then ! (load ! (from ! (stop !)) (look ! 16 refl)) (and-then ! (load ! (from ! (stop !)) (look ! 8 refl)) (and-then ! (load ! (from ! (stop !)) (look ! 14 refl)) (no-more !))))))))) (λ w.
         use1 W (later (some (λ (r : ℕ). (Toks′ ν δ ⊛ ‵ (usize .own r (w ∷ []))) ⊛ raw (ensured 𝓤 H A put-nth.ended (put-nth.clauses 𝓤 H A mem run) (κs′ ν δ) (args ν δ) tt r)))) (id⊢ 𝓤 _) $ await ! tt $ pick ! (λ r.
@@ -220,10 +225,12 @@ module _ {M : Type 1} (𝓤 : URA M) (H : Heap 𝓤) (A : Atoms 𝓤) (W : Given
         -- [the last list; …; the tokens and the result; the slices; what takes it back; what mark owns; _13; …]
         move ! (2 ∷ []) $ split ! $ move ! (1 ∷ []) $ peeks ! usize (Is usize) (shows 𝓤 H A usize) r (w ∷ []) (λ is.
         land ! (from ! (stop !)) (init ! 15 refl (uint-lawful 𝓤 H A W w64 .typed r _ is .0)) $ rewrite ! 15 (λ (u : Val). ‵ (fat fullShare (tyInt w64) l₉ 0 u)) (ap only (is .0)) refl $
-        -- [the result; the tokens; the last list; …; the slices; what takes it back; what mark owns; _13; …]: the lifetime is ended, and the slice comes back at that list
+        -- [the result; the tokens; the last list; …; the slices; what takes it back; what mark owns; _13; …]: the lifetime
+        -- is ended, and the slice comes back at that list
         move ! (1 ∷ []) $ use1 W (‵ (flft (ν ∷ []) fullShare) ⊛ Others) (token-taken 𝓤 κ₀ κ₁ κ₂ κ₃ q₀ q₁ q₂ q₃ H A W (ν ∷ []) fullShare) $ split ! $ lft-end ! tt $ move ! (0 ∷ 6 ∷ 3 ∷ []) $
         use3 W (later (‵ (Out κ γ (last zs)) ⊛ ‵ (flft κ q))) (comes-back u8 κ (ν ∷ []) q γ b o 𝓤 H A W (named 0) (named 0) ys δ (last zs) room l) $ await ! tt $ split ! $
-        -- [what out's borrow owns; its token; the other tokens; the result; …; the slices; what mark owns; _13; …; _12; …; _11; …; _10; …; _9; …; _8; …; _7; …; _6; …; _5; …; _4; …; _3; …; _2; …; _1; …; room for _0; …]
+        -- [what out's borrow owns; its token; the other tokens; the result; …; the slices; what mark owns; _13; …; _12; …;
+        -- _11; …; _10; …; _9; …; _8; …; _7; …; _6; …; _5; …; _4; …; _3; …; _2; …; _1; …; room for _0; …]
         assigns ! (addr ! (from ! (fld ! refl (fld ! refl (hop ! (look-in ! 31 (sub ! 0 refl (sub ! 0 refl (whole !)))) (stop !)))))) (from ! (stop !)) (init ! 9 refl (tt, tt)) $
         assigns ! (agg ! (and-then ! (load ! (from ! (stop !)) (look ! 9 refl)) (and-then ! (load ! (from ! (fld ! refl (fld ! refl (stop !)))) (look-in ! 31 (sub ! 1 refl (sub ! 0 refl (whole !))))) (no-more !)))) (from ! (stop !)) (init ! 7 refl (tt, (tt, (record { fits = room .0 }, tt)))) $
         assigns ! (agg ! (and-then ! (load ! (from ! (stop !)) (look ! 7 refl)) (and-then ! (load ! (from ! (stop !)) (look ! 15 refl)) (no-more !)))) (from ! (stop !)) (init ! 33 refl (tt, ((tt, (record { fits = room .0 }, tt)), (record { fits = is .1 }, tt)))) $

@@ -1,6 +1,8 @@
--- `writer::page::rows` meets its contract: a walk of its MIR, by hand, with a loop that carries the writer, and a call of `row` in its turn. All that the proof knows of `row` is that it meets its contract.
--- Each call is at the borrow's own lifetime, share and ghost name: what `row` returns is, by its contract, a record that is known whole, pointer and ghost name with it. So before turn i the writer is the one passed, with the first i rows written (`RowByRow.antt`), and when the loop is left it still owns the borrow, at the last list (`Held.antt`'s `writer-stay`).
--- Assumes nothing.
+-- `writer::page::rows` meets its contract: a walk of its MIR, by hand, with a loop that carries the writer, and a call of
+-- `row` in its turn. All that the proof knows of `row` is that it meets its contract.
+-- Each call is at the borrow's own lifetime, share and ghost name: what `row` returns is, by its contract, a record that is
+-- known whole, pointer and ghost name with it. So before turn i the writer is the one passed, with the first i rows written
+-- (`RowByRow.antt`), and when the loop is left it still owns the borrow, at the last list (`Held.antt`'s `writer-stay`).
 use mathlib.Core.Path.{_≡_, refl, ap, subst, subst⁻¹, _∙_}
 use Prim.Native.Nat.{ℕ, zero, suc, _+_, _-_, _<_, _≤_, _^_}
 use native.Mathlib.Omega.{arith}
@@ -285,7 +287,8 @@ module _ {M : Type 1} (𝓤 : URA M) (H : Heap 𝓤) (A : Atoms 𝓤) (W : Given
     unfolding afterTurn
     more i X small k =
         qed W (At i) ∵ exec ! C Λ En mir′.turn-1 (anyQ (afterTurn 𝓤 H X Left)) $
-        -- [what the writer owns; _7; _8; _9; _10; _11; _1; …; _6; room for _0; its token; the other tokens; the slices; and that each local dies]
+        -- [what the writer owns; _7; _8; _9; _10; _11; _1; …; _6; room for _0; its token; the other tokens; the slices; and
+        -- that each local dies]
         assigns ! (of-opd ! (load ! (from ! (fld ! refl (stop !))) (look-in ! 9 (sub ! 1 refl (whole !))))) (from ! (stop !)) (init ! 3 refl (tt, record { fits = room₂ .0 })) $
         assigns ! (bin ! (load ! (from ! (stop !)) (look ! 2 refl)) (load ! (from ! (stop !)) (look ! 3 refl)) tt) (from ! (stop !)) (init ! 4 refl (tt, tt)) $
         rewrite ! 4 (λ (t : Bool). ‵ (fat fullShare truth l₁₀ 0 (vbool t))) (lt-ltb i count small) refl $
@@ -333,7 +336,8 @@ module _ {M : Type 1} (𝓤 : URA M) (H : Heap 𝓤) (A : Atoms 𝓤) (W : Given
         rewrite ! 4 (λ (t : Bool). ‵ (fat fullShare truth l₁₀ 0 (vbool t))) (le-ltb count count (omega arith)) refl $
         leaves-loop ! (load ! (from ! (stop !)) (look ! 4 refl)) $ exec ! C Λ En mir′.t-4 (atRet En Post) $
         assigns ! (of-opd ! (load ! (from ! (fld ! refl (stop !))) (look-in ! 1 (sub ! 1 refl (whole !))))) (from ! (stop !)) (init ! 12 refl (tt, record { fits = typed count (omega arith) .1 .1 .0 .fits })) $
-        -- [what the writer owns; _7; …; _11; _1; …; _6; _0; its token; the other tokens; the slices; and that each local dies]
+        -- [what the writer owns; _7; …; _11; _1; …; _6; _0; its token; the other tokens; the slices; and that each local
+        -- dies]
         returns ! (look ! 12 refl) $ forget ! 1 refl $ forget ! 2 refl $ forget ! 3 refl $ forget ! 4 refl $ forget ! 6 refl $ forget ! 7 refl $ forget ! 8 refl $ forget ! 9 refl $ forget ! 10 refl $ forget ! 11 refl $ forget ! 12 refl $
         move ! (12 ∷ 16 ∷ []) $ free1 ! $ move ! (6 ∷ 15 ∷ []) $ free1 ! $ move ! (6 ∷ 14 ∷ []) $ free1 ! $ move ! (6 ∷ 13 ∷ []) $ free1 ! $ move ! (6 ∷ 12 ∷ []) $ free1 ! $ move ! (6 ∷ 11 ∷ []) $ free1 ! $ move ! (6 ∷ 10 ∷ []) $ free1 ! $
         move ! (1 ∷ 9 ∷ []) $ free1 ! $ move ! (1 ∷ 8 ∷ []) $ free1 ! $ move ! (1 ∷ 7 ∷ []) $ free1 ! $ move ! (1 ∷ 6 ∷ []) $ free1 ! $ move ! (1 ∷ 5 ∷ []) $ free1 ! $ free0 ! $ by ! exits
@@ -373,7 +377,8 @@ module _ {M : Type 1} (𝓤 : URA M) (H : Heap 𝓤) (A : Atoms 𝓤) (W : Given
       pass1 ! (init ! 20 refl (LL.lawful (T.the-type α) (T′.the-laws α) 𝓤 H A W .typed h _ g .0)) $
       pass1 ! (init ! 18 refl (tt, (tt, (record { fits = room₀ .0 }, tt)))) $ pass1 ! (init ! 16 refl (tt, (tt, (record { fits = room₁ .0 }, tt)))) $ pass1 ! (init ! 14 refl (tt, (tt, (record { fits = room₂ .0 }, tt)))) $
       pass1 ! (init ! 12 refl (array-lawful 𝓤 H A W P.the-row (LL.lawful P.the-type P′.the-laws 𝓤 H A W) 128 .typed xs _ xs-is .0)) $ pass1 ! (init ! 10 refl (tt, (tt, (record { fits = room₃ .0 }, tt)))) $ pass0 ! $
-      -- [_11; …; _10; …; _9; …; _8; …; _7; …; _6; …; _5; …; _4; …; _3; …; _2; …; _1; …; room for _0; …; the tokens; what the parameters own]
+      -- [_11; …; _10; …; _9; …; _8; …; _7; …; _6; …; _5; …; _4; …; _3; …; _2; …; _1; …; room for _0; …; the tokens; what
+      -- the parameters own]
       assigns ! (of-opd ! (load ! (from ! (stop !)) (look ! 20 refl))) (from ! (stop !)) (init ! 8 refl (tt, ((tt, (record { fits = room .0 }, tt)), (record { fits = n-fits }, tt)))) $
       assigns ! (of-opd ! (lit ! tt)) (from ! (stop !)) (init ! 6 refl (tt, record { fits = lit< tt })) $
       move ! (25 ∷ []) $ fsplit ! $ move ! (1 ∷ []) $ use1 W (‵ ftrue ⊛ ‵ Shared) (five-apart κ₀ κ₁ κ₂ κ₃ x₀ x₁ x₂ xs x₃ 𝓤 H A W ftrue) $ split ! $ drop ! $ move ! (26 ∷ []) $ split ! $
