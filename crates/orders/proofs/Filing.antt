@@ -2,13 +2,13 @@
 -- a buffer holds while elements are copied to its beginning.
 use mathlib.Core.Path.{_≡_, refl, ap, _∙_}
 use mathlib.Core.List.{List, [], _∷_, _++_, append-assoc, append-nil, map-append}
-use Prim.Native.Nat.{ℕ, suc, _+_, _≤_, _<_}
+use Prim.Native.Nat.{ℕ, _+_, _≤_, _<_}
 use native.Mathlib.Numerals.{add-one}
 use native.Mathlib.Omega.{arith}
-use lib.ListN.{length, getD, take, drop, set, length-append, length-drop, length-set, length-map}
-use lib.Seq.{length-take-le, take-suc, take-suc-set, take-add, drop-cons, set-at}
+use lib.ListN.{length, getD, take, drop, set, length-drop, length-set, length-map}
+use lib.Seq.{length-take-le, take-suc-set, take-add}
 use Rattle.lists.specs.Runs.{codesIn, total, flat, over}
-use Rattle.lists.proofs.Runs.{cut-again, total-lengths}
+use Rattle.lists.proofs.Runs.{cut-again, total-lengths, over-next}
 use Rattle.grammar.specs.Files.{add}
 use Rattle.rows.specs.Scans.{partOf, KeptTo}
 use Rattle.orders.specs.Gathering.{Filed}
@@ -22,17 +22,9 @@ pub copied-none : (xs to : List ℕ) → Copied xs to to 0
 copied-none xs to = record { is-over = refl; as-long = refl }
 
 module _ (xs to : List ℕ) (i : ℕ) (h : i < length xs) (k : i < length to) where
-  over-more : set (over (take i xs) to) i (getD xs i 0) ≡ over (take (i + 1) xs) to
-  over-more =
-      let l : length (take i xs) ≡ i = length-take-le i xs (omega arith) in
-      let m : length (take i xs ++ (getD xs i 0 ∷ [])) ≡ suc i =
-      omega (arith, length-append (take i xs) (getD xs i 0 ∷ [])) in
-      rw (add-one, take-suc xs i 0 h, m, l, drop-cons to i 0 k, append-assoc)
-      (set-at (take i xs) (getD to i 0) (drop (suc i) to) (getD xs i 0) i l)
-
   pub copied-more : {after : List ℕ} → Copied xs to after i → Copied xs to (set after i (getD xs i 0)) (i + 1)
   copied-more {after} c = record {
-    is-over = ap (λ l. set l i (getD xs i 0)) (c .is-over) ∙ over-more;
+    is-over = ap (λ l. set l i (getD xs i 0)) (c .is-over) ∙ over-next xs to i 0 h k;
     as-long = length-set after i (getD xs i 0) ∙ c .as-long;
   }
 

@@ -3,11 +3,11 @@
 use mathlib.Core.Path.{_≡_, refl, sym, ap, _∙_}
 use mathlib.Core.Bool.{Bool, true, false, _&&_, _||_}
 use mathlib.Core.List.{List, [], _∷_}
-use Prim.Native.Nat.{ℕ, zero, suc, _+_, _-_, _*_, _/_, _%_, _≤_, _<_}
+use Prim.Native.Nat.{ℕ, zero, suc, _+_, _*_, _/_, _%_, _≤_, _<_}
 use native.Mathlib.Omega.{arith}
 use native.Mathlib.Decide.{ℕ-discrete}
 use lib.Dec.{eqb, ltb}
-use lib.ListN.{length, take, drop, getD, length-append, length-drop, List·getD-append}
+use lib.ListN.{length, drop, getD, length-append, length-drop, List·getD-append}
 use lib.Seq.{length-take-le, getD-at}
 use borrow.Author.Tests.{eq-eqb, ne-eqb}
 use Rattle.words.specs.Turn.{turned}
@@ -94,7 +94,3 @@ module _ (run starts sizes : List ℕ) where
           face-size b (in-run .ends (b / 2) l),
           in-run .short (b / 2) l,
         )
-
--- the part from a start to a start and a size
-pub from-to : (run : List ℕ) (s n : ℕ) → take (s + n - s) (drop s run) ≡ take n (drop s run)
-from-to run s n = let e : s + n - s ≡ n = omega arith in ap (λ (k : ℕ). take k (drop s run)) e

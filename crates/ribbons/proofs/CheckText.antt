@@ -1,6 +1,6 @@
 -- The line of a check is the line of its answer: a fit list is not refused, none gets stuck, and there is room for all of
 -- its records. So each answer that is left is one for which the program's claim has the line.
-use mathlib.Core.Path.{_≡_, refl, sym, ap, subst, _∙_}
+use mathlib.Core.Path.{_≡_, sym, ap, subst, _∙_}
 use mathlib.Core.Bool.{true}
 use mathlib.Core.List.{List, []}
 use Prim.Native.Nat.{ℕ, _≤_}

@@ -11,7 +11,7 @@ use Rattle.lists.specs.Runs.{codesIn, total}
 use Rattle.grammar.specs.Files.{comma, lineBreak}
 use Rattle.grammar.specs.Quoting.{fieldText}
 use Rattle.greedy.specs.Dropping.{codeAt}
-use Rattle.parts.proofs.Parts.{from-to}
+use Rattle.lists.proofs.Passing.{part-to}
 use Rattle.parts.proofs.Cutting.{total-part, code-at}
 use Rattle.places.specs.declared.Place as declared
 use Rattle.places.specs.declared.Way.{Way}
@@ -42,7 +42,7 @@ way-few (Turned i) = omega arith
 
 module _ (name : List ℕ) (n : ℕ) (way : Way) (ribbon : List ℕ) {start : ℕ} (e : start ≡ startOf way) where
   pub row-parts : wayRow name n way ribbon ≡ fieldText name ++ (wayText way ++ fromStart ribbon n start)
-  row-parts = rw (e, from-to ribbon (startOf way) n) (by way)
+  row-parts = rw (e, part-to ribbon (startOf way) n) (by way)
     where
       by : (w : Way) → wayRow name n w ribbon
           ≡ fieldText name
@@ -57,7 +57,7 @@ module _ (name : List ℕ) (n : ℕ) (way : Way) (ribbon : List ℕ) {start : �
     row-long =
         let bands : length (take n (drop start ribbon)) ≡ n =
         length-take-le n (drop start ribbon) (omega (arith, length-drop start ribbon)) in
-        ap length row-parts ∙ rw (from-to ribbon start n) (simp length-append (omega (arith, bands)))
+        ap length row-parts ∙ rw (part-to ribbon start n) (simp length-append (omega (arith, bands)))
 
     -- it is short, where name and code are
     pub row-short : length name < 65536 → n ≤ 64 → start < 4294967296 → length (wayRow name n way ribbon) ≤ 131200
@@ -98,7 +98,7 @@ module _ {names sizes ls : List ℕ} {ps : List declared.Place} {ribbon : List �
           let p : i < length ps = omega (arith, r .records-there) in
           rw (
             add-one,
-            from-to names from (getD sizes i 0),
+            part-to names from (getD sizes i 0),
             drop-cons sizes i 0 s,
             drop-cons ls i 0 h,
             drop-cons ps i (record { code = 0; way = Given 0 }) p,
@@ -119,7 +119,7 @@ module _ {names sizes ls : List ℕ} {ps : List declared.Place} {ribbon : List �
 
         pub name-long : length (take (from + getD sizes i 0 - from) (drop from names)) ≡ getD sizes i 0
         name-long =
-            rw (from-to names from (getD sizes i 0))
+            rw (part-to names from (getD sizes i 0))
             (length-take-le (getD sizes i 0) (drop from names) (omega (arith, length-drop from names, name-fits)))
 
         pub reached-more : Reached names sizes (from + getD sizes i 0) (i + 1)
@@ -143,5 +143,5 @@ module _ {names sizes ls : List ℕ} {ps : List declared.Place} {ribbon : List �
   pub nth-is : nthRow names sizes ls ps ribbon i ≡ rowAt names sizes ls ps ribbon from i
   nth-is =
       let name : codeAt (codesIn names sizes) i ≡ take (from + getD sizes i 0 - from) (drop from names) =
-      code-at names sizes i (omega (arith, r .one-each)) ∙ rw (from-to names from (getD sizes i 0), start-is) in
+      code-at names sizes i (omega (arith, r .one-each)) ∙ rw (part-to names from (getD sizes i 0), start-is) in
       ap (λ (n : List ℕ). wayRow n (getD ls i 0) (nthPlace ps i .way) ribbon) name

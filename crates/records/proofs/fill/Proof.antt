@@ -54,7 +54,7 @@ use Rattle.places.specs.declared.Place.{Place}
 use Rattle.places.specs.declared.Way.the-variants.{Given as given}
 use Rattle.places.proofs.Place as P
 use Rattle.places.proofs.Place.Laws as P′
-use Rattle.records.proofs.Filling.{length-over, over-next}
+use Rattle.lists.proofs.Runs.{length-over, over-next}
 use Rattle.records.proofs.Row.{Row, rowTy, rowVals, rowVal, row-tells, row-makes, apart, together}
 use Rattle.records.proofs.fill.Key.{name as #records·fill}
 use Rattle.records.proofs.fill as fill′

@@ -1,7 +1,7 @@
 -- `cuts::part`: from a start to that start and a size is so many bands from the start on.
 use lib.ListN.{getD}
 use borrow.Author.Needs.{needs}
-use Rattle.parts.proofs.Parts.{from-to}
+use Rattle.lists.proofs.Passing.{part-to}
 use Rattle.parts.proofs.cuts.part.Statement.{statement}
 use Rattle.parts.proofs.cuts.part.Tie as tie
 
@@ -32,7 +32,7 @@ part-result-end c = search needs
 returns : tie.Need-returns
 returns c =
     let a = c .before .before .before .args in
-    from-to (a .bands .now) (getD (a .starts .now) (a .k) 0) (getD (a .sizes .now) (a .k) 0)
+    part-to (a .bands .now) (getD (a .starts .now) (a .k) 0) (getD (a .sizes .now) (a .k) 0)
 
 pub part-spec : {M : Type 1} → statement M
 part-spec =

@@ -5,7 +5,7 @@ use Prim.Native.Nat.{ℕ}
 use borrow.Author.Needs.{needs}
 use Rattle.words.specs.Turn.{turned}
 use Rattle.words.specs.Place.{placeOf}
-use Rattle.parts.proofs.Parts.{from-to}
+use Rattle.lists.proofs.Passing.{part-to}
 use Rattle.places.proofs.records.place_of.Statement.{statement}
 use Rattle.places.proofs.records.place_of.Tie as tie
 
@@ -28,7 +28,7 @@ returns : tie.Need-returns
 returns c =
     let a = c .before .before .before .before .args in
     c .find-place .ensures
-    ∙ ap (λ (w : List ℕ). placeOf turned w (a .ribbon .now)) (from-to (a .bands .now) (a .at) (a .size))
+    ∙ ap (λ (w : List ℕ). placeOf turned w (a .ribbon .now)) (part-to (a .bands .now) (a .at) (a .size))
 
 pub place-of-spec : {M : Type 1} → statement M
 place-of-spec =
