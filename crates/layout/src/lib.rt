@@ -50,7 +50,7 @@ fn lay_order(
     let long = sums.bands;
     let saved = sums.saved;
     if ribbon.len() < long {
-        return refused(13);
+        return refused(lists::SHORT_BUFFER);
     }
     write_bands(bands, starts, sizes, n, order, &skips, ribbon);
     Laid::Ribbon {
@@ -76,7 +76,7 @@ pub fn lay_ribbon(bands: &[u8], lengths: &[u16], ribbon: &mut [u8]) -> Laid
     ensures { λ r. ⌜ LaysRibbon (now (bands .entry)) (now (lengths .entry)) (now (ribbon .entry)) (now (ribbon .exit)) r ⌝ }
 {
     if !lists::list_ok(bands, lengths) {
-        return refused(12);
+        return refused(lists::FALSE_LIST);
     }
     let mut starts = [0usize; 128];
     let mut sizes = [0usize; 128];

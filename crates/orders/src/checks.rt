@@ -34,7 +34,7 @@ pub fn check_row(
     let good = row.good;
     if !good {
         return Checked {
-            fault: 2,
+            fault: lists::BROKEN_ROW,
             name: 0,
             code: 0,
             next: at,
@@ -42,7 +42,7 @@ pub fn check_row(
     }
     if row.fields != 2 {
         return Checked {
-            fault: 3,
+            fault: lists::WRONG_WIDTH,
             name: 0,
             code: 0,
             next: at,
@@ -85,10 +85,10 @@ fn head_fault(name: &[u8], code: &[u8]) -> u8
     ensures { λ r. ⌜ r ≡ headFault (now (name .entry)) (now (code .entry)) ⌝ }
 {
     if !words::same(name, b"name") {
-        return 4;
+        return lists::WRONG_HEADING;
     }
     if !words::same(code, b"code") {
-        return 4;
+        return lists::WRONG_HEADING;
     }
     0
 }
@@ -99,22 +99,22 @@ fn entry_fault(name: &[u8], code: &[u8], names: &[u8], sizes: &[u16]) -> u8
     ensures { λ r. ⌜ r ≡ entryFault (codesIn (now (names .entry)) (now (sizes .entry))) (now (name .entry)) (now (code .entry)) ⌝ }
 {
     if !lists::name_ok(name) {
-        return 5;
+        return lists::BAD_NAME;
     }
     if code.len() == 0 {
-        return 6;
+        return lists::NO_BANDS;
     }
     if 64 < code.len() {
-        return 7;
+        return lists::LONG_CODE;
     }
     if !lists::all_bands(code) {
-        return 8;
+        return lists::UNKNOWN_COLOUR;
     }
     if lists::is_taken(name, names, sizes) {
-        return 9;
+        return lists::NAME_TAKEN;
     }
     if 128 <= sizes.len() {
-        return 10;
+        return lists::LIST_FULL;
     }
     0
 }

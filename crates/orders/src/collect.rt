@@ -65,7 +65,7 @@ fn gather_entries(
         at = row.next;
     }
     if count == 0 {
-        return refused(11, 0);
+        return refused(lists::EMPTY_LIST, 0);
     }
     Gathered {
         number: 0,

@@ -36,16 +36,28 @@ pub fn hand_over(
         });
     }
     if bands.len() < band_count {
-        return Read::Refused(Refusal { number: 13, row: 0 });
+        return Read::Refused(Refusal {
+            number: lists::SHORT_BUFFER,
+            row: 0,
+        });
     }
     if lengths.len() < codes {
-        return Read::Refused(Refusal { number: 13, row: 0 });
+        return Read::Refused(Refusal {
+            number: lists::SHORT_BUFFER,
+            row: 0,
+        });
     }
     if names.len() < name_count {
-        return Read::Refused(Refusal { number: 13, row: 0 });
+        return Read::Refused(Refusal {
+            number: lists::SHORT_BUFFER,
+            row: 0,
+        });
     }
     if sizes.len() < codes {
-        return Read::Refused(Refusal { number: 13, row: 0 });
+        return Read::Refused(Refusal {
+            number: lists::SHORT_BUFFER,
+            row: 0,
+        });
     }
     words::put_word(&code_run[..band_count], bands, 0);
     copy_lengths(code_lengths, codes, lengths);

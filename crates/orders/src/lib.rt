@@ -29,10 +29,16 @@ pub fn read_orders(
     ensures { λ r. ⌜ ReadsOrders (now (file .entry)) (lent (now (bands .entry)) (now (lengths .entry)) (now (names .entry)) (now (sizes .entry))) (lent (now (bands .exit)) (now (lengths .exit)) (now (names .exit)) (now (sizes .exit))) r ⌝ }
 {
     if 16384 < file.len() {
-        return Read::Refused(Refusal { number: 1, row: 0 });
+        return Read::Refused(Refusal {
+            number: lists::LONG_FILE,
+            row: 0,
+        });
     }
     if file.len() == 0 {
-        return Read::Refused(Refusal { number: 4, row: 0 });
+        return Read::Refused(Refusal {
+            number: lists::WRONG_HEADING,
+            row: 0,
+        });
     }
     let mut code_run = [0u8; 16384];
     let mut code_lengths = [0u16; 128];

@@ -125,7 +125,7 @@ pub fn check_places(bands: &[u8], lengths: &[u16], ribbon: &[u8], room: usize) -
         return without_records(Checked::Missing(count as u32));
     }
     if room < count {
-        return refused(13);
+        return refused(lists::SHORT_BUFFER);
     }
     let records = sought.records;
     Findings {

@@ -16,13 +16,13 @@ pub fn supplied_fault(bands: &[u8], lengths: &[u16], ribbon: &[u8]) -> u8
     ensures { λ r. ⌜ r ≡ suppliedFault (now (bands .entry)) (now (lengths .entry)) (now (ribbon .entry)) ⌝ }
 {
     if !lists::list_ok(bands, lengths) {
-        return 12;
+        return lists::FALSE_LIST;
     }
     if 16384 < ribbon.len() {
-        return 15;
+        return lists::LONG_RIBBON;
     }
     if !lists::all_bands(ribbon) {
-        return 8;
+        return lists::UNKNOWN_COLOUR;
     }
     0
 }

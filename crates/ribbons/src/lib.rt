@@ -2,7 +2,6 @@
 mod check_printing; // the check program's output
 mod limits; // sizes that always suffice
 mod lines; // the lines that programs write
-mod refusals; // the numbers of refusals
 mod ribbon_printing; // the ribbon program's
 mod sheet_printing; // the sheet program's
 
@@ -25,22 +24,22 @@ pub use rows::ribbon_of;
 pub use writer::Wrote;
 pub use writer::write_sheet;
 // refusals, which all of them give
+pub use lists::BAD_NAME;
+pub use lists::BROKEN_ROW;
+pub use lists::EMPTY_LIST;
+pub use lists::FALSE_LIST;
+pub use lists::LIST_FULL;
+pub use lists::LONG_CODE;
+pub use lists::LONG_FILE;
+pub use lists::LONG_RIBBON;
+pub use lists::NAME_TAKEN;
+pub use lists::NO_BANDS;
 pub use lists::Refusal;
-pub use refusals::BAD_NAME;
-pub use refusals::BROKEN_ROW;
-pub use refusals::EMPTY_LIST;
-pub use refusals::FALSE_LIST;
-pub use refusals::LIST_FULL;
-pub use refusals::LONG_CODE;
-pub use refusals::LONG_FILE;
-pub use refusals::LONG_RIBBON;
-pub use refusals::NAME_TAKEN;
-pub use refusals::NO_BANDS;
-pub use refusals::SHORT_BUFFER;
-pub use refusals::STUCK;
-pub use refusals::UNKNOWN_COLOUR;
-pub use refusals::WRONG_HEADING;
-pub use refusals::WRONG_WIDTH;
+pub use lists::SHORT_BUFFER;
+pub use lists::STUCK;
+pub use lists::UNKNOWN_COLOUR;
+pub use lists::WRONG_HEADING;
+pub use lists::WRONG_WIDTH;
 // sizes that always suffice
 pub use limits::MOST_BANDS;
 pub use limits::MOST_CODES;

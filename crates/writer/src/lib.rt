@@ -46,7 +46,7 @@ fn write_laid(
     let records = sought.records;
     let size = sheet_size(names, sizes, lengths, records, ribbon);
     if out.len() < size {
-        return refused(13);
+        return refused(lists::SHORT_BUFFER);
     }
     put_sheet(names, sizes, lengths, records, ribbon, out);
     Wrote::Sheet {
@@ -68,10 +68,10 @@ pub fn write_sheet(
     ensures { λ r. ⌜ WritesSheet (now (bands .entry)) (now (lengths .entry)) (now (names .entry)) (now (sizes .entry)) (now (out .entry)) (now (out .exit)) r ⌝ }
 {
     if !lists::list_ok(bands, lengths) {
-        return refused(12);
+        return refused(lists::FALSE_LIST);
     }
     if !lists::names_ok(lengths.len(), names, sizes) {
-        return refused(12);
+        return refused(lists::FALSE_LIST);
     }
     let mut ribbon = [0u8; 8192];
     let laid = lay_ribbon(bands, lengths, &mut ribbon);

@@ -1,6 +1,7 @@
-// The numbers of refusals, by document 01's words.
+// The numbers of refusals, by document 01's words. All calls answer with these, so that a wrong one breaks their proofs; 14 is
+// never answered.
 
-// More than MOST_FILE_BYTES bytes in an order list.
+// More than 16,384 bytes in an order list.
 pub const LONG_FILE: u8 = 1;
 
 // The row breaks RFC 4180's grammar, or holds a byte other than CR, LF and hexadecimal 20 to 7E.
@@ -42,5 +43,5 @@ pub const SHORT_BUFFER: u8 = 13;
 // Several pieces remain and no join is allowed. No list is refused so.
 pub const STUCK: u8 = 14;
 
-// More than MOST_SUPPLIED_BANDS bands in a supplied ribbon.
+// More than 16,384 bands in a supplied ribbon.
 pub const LONG_RIBBON: u8 = 15;
