@@ -28,7 +28,7 @@ use Rattle.places.specs.Check.{none-missing, missing, missingOn}
 use Rattle.places.specs.Answers.{PlaceRecord, CheckAnswer, CheckOutcome, refused, missing-code, held, AreRecords, Fit}
 use Rattle.places.specs.Answers.{ChecksInto, false-list, long-ribbon, no-colour, no-join, no-place, short-buffer, filled}
 use Rattle.places.specs.Answers.{less, recordsFrom, suppliedFault, heldOutcome, checkOutcome}
-use Rattle.places.specs.Calls.{recordOf, recordsOf, answerOf, ChecksRibbon, ChecksInRoom, ChecksAlone, FindsPlaces}
+use Rattle.places.specs.Calls.{recordOf, recordsOf, blanks, answerOf, ChecksRibbon, ChecksInRoom, ChecksAlone, FindsPlaces}
 use Rattle.places.proofs.Answers.{checks-ours, into-only}
 use Rattle.places.proofs.Finding.{count-missing, none-is-missing, records-are}
 
@@ -105,38 +105,39 @@ checks-so {run} {ls} {row} {before} e =
 
 module _ (run ls row : List ℕ) (room : ℕ) where
   none-due : {r : Checked} {due : ℕ} {all : List declared.Place} → due ≡ 0
-      → ((before : List declared.Place) → length before ≡ room
+      → all ≡ blanks → ((before : List declared.Place) → length before ≡ room
       → checkOutcome run ls row (recordsOf before) ≡ outcome (answerOf r) (recordsOf before))
       → ChecksInRoom run ls row room r due all
-  none-due {r} {due} {all} z f =
+  none-due {r} {due} {all} z b f =
       record {
         few = omega arith;
         fits = omega arith;
+        rest = ap (drop due) b;
         checks =
             λ before l.
             subst (λ (n : ℕ). ChecksRibbon run ls row before (over (take n all) before) r) (sym z) (checks-so (f before l));
       }
 
   pub refused-in-room : {r : Checked} {due : ℕ} {all : List declared.Place} {f : ℕ} → f ≡ suppliedFault run ls row
-      → (f ≡ 0 → ⊥) → answerOf r ≡ refused (whole f) → due ≡ 0 → ChecksInRoom run ls row room r due all
-  refused-in-room e n a z =
-      none-due z (λ before l.
+      → (f ≡ 0 → ⊥) → answerOf r ≡ refused (whole f) → due ≡ 0 → all ≡ blanks → ChecksInRoom run ls row room r due all
+  refused-in-room e n a z b =
+      none-due z b (λ before l.
       refused-outcome run ls row (recordsOf before) (sym e) n
       ∙ ap (λ (x : CheckAnswer). outcome x (recordsOf before)) (sym a))
 
   module _ (fit : suppliedFault run ls row ≡ 0) {count : ℕ} {places : List declared.Place} (p : FindsPlaces run ls row count places) where
     pub missing-in-room : {r : Checked} {due : ℕ} {all : List declared.Place} → count < length ls → answerOf r ≡ missing-code count
-        → due ≡ 0 → ChecksInRoom run ls row room r due all
-    missing-in-room l a z =
-        none-due z (λ before m.
+        → due ≡ 0 → all ≡ blanks → ChecksInRoom run ls row room r due all
+    missing-in-room l a z b =
+        none-due z b (λ before m.
         missing-outcome run ls row (recordsOf before) fit (count-missing p l)
         ∙ ap (λ (x : CheckAnswer). outcome x (recordsOf before)) (sym a))
 
     module _ (l : length ls ≤ count) where
       pub short-in-room : {r : Checked} {due : ℕ} {all : List declared.Place} → room < count → answerOf r ≡ refused (whole shortBuffer)
-          → due ≡ 0 → ChecksInRoom run ls row room r due all
-      short-in-room s a z =
-          none-due z (λ before m.
+          → due ≡ 0 → all ≡ blanks → ChecksInRoom run ls row room r due all
+      short-in-room s a z b =
+          none-due z b (λ before m.
           short-outcome run ls row (recordsOf before) fit (none-is-missing p l)
           (omega (arith, length-map before recordOf, m, s, p .within))
           ∙ ap (λ (x : CheckAnswer). outcome x (recordsOf before)) (sym a))
@@ -147,6 +148,7 @@ module _ (run ls row : List ℕ) (room : ℕ) where
           record {
             few = omega (arith, p .within, holds (is-fit-list run ls) (not-faulty run ls row fit .0) .at-most);
             fits = k;
+            rest = p .rest;
             checks =
                 λ before m.
                 checks-so (held-outcome run ls row (recordsOf before) fit (none-is-missing p l)

@@ -8,7 +8,7 @@ use Prim.Native.Nat.{ℕ, suc, _+_, _≤_, _<_}
 use native.Mathlib.Numerals.{add-one}
 use native.Mathlib.Omega.{arith}
 use lib.ListN.{length, take, drop, getD, set, length-set}
-use lib.Seq.{take-suc, take-suc-set, take-all, length-take-le, getD-take}
+use lib.Seq.{take-suc, take-suc-set, take-all, length-take-le, getD-take, drop-drop, drop-set-lt}
 use Rattle.words.specs.Turn.{turned}
 use Rattle.words.specs.Lists.{Each}
 use Rattle.words.specs.Stand.{StandsSomeWay}
@@ -31,7 +31,7 @@ use Rattle.places.specs.declared.Way.the-variants.{Given, Turned}
 use Rattle.places.specs.Starts.{StartsWithin}
 use Rattle.places.specs.Check.{none-missing, missing, all-held, lowest, missingOn}
 use Rattle.places.specs.Answers.{PlaceRecord, recordsFrom}
-use Rattle.places.specs.Calls.{wayAt, recordOf, recordsOf, FindsPlaces}
+use Rattle.places.specs.Calls.{wayAt, recordOf, recordsOf, blanks, FindsPlaces}
 use Rattle.places.proofs.Check.{misses-ours, missing-one}
 
 -- a place on a row starts within it
@@ -63,9 +63,15 @@ pub record Finding (run ls row : List ℕ) (all : List declared.Place) (at i : �
   pub there : at ≡ total (take i ls)
   pub room : length all ≡ 128
   pub are : recordsOf (take i all) ≡ recordsFrom 0 (take i (codesIn run ls)) row
+  pub rest : drop i all ≡ drop i blanks
 
-pub finding-none : (run ls row : List ℕ) (all : List declared.Place) → length all ≡ 128 → Finding run ls row all 0 0
-finding-none run ls row all e = record { bound = omega arith; there = refl; room = e; are = refl }
+blanks-long : length blanks ≡ 128
+unfolding blanks
+blanks-long = refl
+
+pub finding-none : (run ls row : List ℕ) (all : List declared.Place) → all ≡ blanks → Finding run ls row all 0 0
+finding-none run ls row all e =
+    record { bound = omega arith; there = refl; room = ap length e ∙ blanks-long; are = refl; rest = e }
 
 module _ {run ls row : List ℕ} {all : List declared.Place} {at i : ℕ} (f : Finding run ls row all at i) where
   module _ (ok : listOk run ls ≡ true) (h : i < length ls) where
@@ -91,6 +97,9 @@ module _ {run ls row : List ℕ} {all : List declared.Place} {at i : ℕ} (f : F
           there = rw add-one (omega (arith, f .there, total-more ls i h));
           room = length-set all i p ∙ f .room;
           are = rw add-one more;
+          rest =
+              drop-set-lt (i + 1) all i p (omega arith) ∙ sym (drop-drop 1 i all) ∙ ap (drop 1) (f .rest)
+              ∙ drop-drop 1 i blanks;
         }
       where
         more : recordsOf (take (suc i) (set all i p)) ≡ recordsFrom 0 (take (suc i) (codesIn run ls)) row
@@ -114,12 +123,13 @@ module _ {run ls row : List ℕ} {all : List declared.Place} {at i : ℕ} (f : F
           within = f .bound;
           room = f .room;
           are = f .are;
+          rest = f .rest;
           stops = λ _. ap (λ (c : List ℕ). found (placeOf turned c row)) (sym code-is) ∙ e;
         }
 
   -- all codes are done
   pub finding-all : length ls ≤ i → FindsPlaces run ls row i all
-  finding-all h = record { within = f .bound; room = f .room; are = f .are; stops = λ l. absurd (omega arith) }
+  finding-all h = record { within = f .bound; room = f .room; are = f .are; rest = f .rest; stops = λ l. absurd (omega arith) }
 
 -- What the search for places tells: the codes whose records it has stand on the row, since no record is of no place.
 way-found : (w : Way) → found (wayAt w) ≡ true

@@ -6,7 +6,7 @@ ghost use lib.ListN.{length};
 ghost use Rattle.lists.specs.Fit.{listOk};
 ghost use Rattle.lists.specs.Refusals.{whole};
 ghost use Rattle.places.specs.Answers as a;
-ghost use Rattle.places.specs.Calls.{FindsPlaces, ChecksInRoom, ChecksAlone, answerOf};
+ghost use Rattle.places.specs.Calls.{FindsPlaces, ChecksInRoom, ChecksAlone, answerOf, blanks};
 
 mod records; // the record of a code
 mod supplied; // refusals of what is supplied, and the difference
@@ -38,7 +38,7 @@ pub enum Checked {
     Held(i32),
 }
 
-// The answer of a check, and the records that are due: so many, at the front of a row.
+// The answer of a check, and the records that are due: so many, at the front of a row. Behind them none is set.
 pub struct Findings {
     pub answer: Checked,
     pub due: usize,
@@ -51,9 +51,9 @@ pub struct Sought {
     pub records: [Place; 128],
 }
 
-// A row of records for the places of any list.
+// A row of records for the places of any list, none of them set.
 fn blank() -> [Place; 128]
-    ensures { λ r. ⌜ length r ≡ 128 ⌝ }
+    ensures { λ r. ⌜ r ≡ blanks ⌝ }
 {
     [Place {
         code: 0,
@@ -90,7 +90,7 @@ pub fn find_places(bands: &[u8], lengths: &[u16], ribbon: &[u8]) -> Sought
 
 // An answer with no record due.
 fn without_records(answer: Checked) -> Findings
-    ensures { λ r. ⌜ (r .answer ≡ answer) × (r .due ≡ 0) ⌝ }
+    ensures { λ r. ⌜ (r .answer ≡ answer) × (r .due ≡ 0) × (r .records ≡ blanks) ⌝ }
 {
     let records = blank();
     Findings {
@@ -102,7 +102,7 @@ fn without_records(answer: Checked) -> Findings
 
 // A refusal of the whole input.
 fn refused(number: u8) -> Findings
-    ensures { λ r. ⌜ (answerOf (r .answer) ≡ a.refused (whole number)) × (r .due ≡ 0) ⌝ }
+    ensures { λ r. ⌜ (answerOf (r .answer) ≡ a.refused (whole number)) × (r .due ≡ 0) × (r .records ≡ blanks) ⌝ }
 {
     without_records(Checked::Refused(Refusal {
         number: number,

@@ -25,7 +25,7 @@ returns : tie.Need-returns
 returns c =
     let a = c .before .before .before .before .before .before .args in
     refused-in-room (a .bands .now) (a .lengths .now) (a .ribbon .now) (a .room) (c .before .before .supplied-fault .ensures)
-    (c .before .if1 .taken) (c .refused .ensures .0) (c .refused .ensures .1)
+    (c .before .if1 .taken) (c .refused .ensures .0) (c .refused .ensures .1) (c .refused .ensures .2)
 
 find-places-requires : tie.Need-find-places-requires
 find-places-requires c κs =
@@ -48,6 +48,7 @@ returns-2 c =
     let fit = sym (c .before .before .before .before .supplied-fault .ensures) ∙ c .before .before .before .if1 .left in
     missing-in-room (a .bands .now) (a .lengths .now) (a .ribbon .now) (a .room) fit (c .before .before .find-places .ensures)
     (c .before .if2 .taken) (ap answerOf (c .without-records .ensures .0)) (c .without-records .ensures .1)
+    (c .without-records .ensures .2)
 
 refused-requires-2 : tie.Need-refused-requires-2
 refused-requires-2 c κs = search needs
@@ -58,6 +59,7 @@ returns-3 c =
     let fit = sym (c .before .before .before .before .before .supplied-fault .ensures) ∙ c .before .before .before .before .if1 .left in
     short-in-room (a .bands .now) (a .lengths .now) (a .ribbon .now) (a .room) fit (c .before .before .before .find-places .ensures)
     (c .before .before .if2 .left) (c .before .if3 .taken) (c .refused2 .ensures .0) (c .refused2 .ensures .1)
+    (c .refused2 .ensures .2)
 
 computed-length-requires : tie.Need-computed-length-requires
 computed-length-requires c κs =

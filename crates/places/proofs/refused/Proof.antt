@@ -9,7 +9,9 @@ without-records-requires : tie.Need-without-records-requires
 without-records-requires c κs = search needs
 
 returns : tie.Need-returns
-returns c = (ap answerOf (c .without-records .ensures .0), c .without-records .ensures .1)
+returns c =
+    let e = c .without-records .ensures in
+    (ap answerOf (e .0), e .1, e .2)
 
 pub refused-spec : {M : Type 1} → statement M
 refused-spec = tie.close (tie.spec without-records-requires returns)
