@@ -10,6 +10,15 @@ use crate::Read;
 use crate::collect::Gathered;
 use lists::Refusal;
 
+pub fn refused(number: u8, row: u32) -> Read
+    ensures { λ r. ⌜ r ≡ Read.Refused (record { number = number; row = row }) ⌝ }
+{
+    Read::Refused(Refusal {
+        number: number,
+        row: row,
+    })
+}
+
 // The answer, with the words that were gathered written into the lent buffers where each is long enough.
 pub fn hand_over(
     all: Gathered,
@@ -30,34 +39,19 @@ pub fn hand_over(
     let band_count = all.bands;
     let name_count = all.names;
     if number != 0 {
-        return Read::Refused(Refusal {
-            number,
-            row: all.row,
-        });
+        return refused(number, all.row);
     }
     if bands.len() < band_count {
-        return Read::Refused(Refusal {
-            number: lists::SHORT_BUFFER,
-            row: 0,
-        });
+        return refused(lists::SHORT_BUFFER, 0);
     }
     if lengths.len() < codes {
-        return Read::Refused(Refusal {
-            number: lists::SHORT_BUFFER,
-            row: 0,
-        });
+        return refused(lists::SHORT_BUFFER, 0);
     }
     if names.len() < name_count {
-        return Read::Refused(Refusal {
-            number: lists::SHORT_BUFFER,
-            row: 0,
-        });
+        return refused(lists::SHORT_BUFFER, 0);
     }
     if sizes.len() < codes {
-        return Read::Refused(Refusal {
-            number: lists::SHORT_BUFFER,
-            row: 0,
-        });
+        return refused(lists::SHORT_BUFFER, 0);
     }
     words::put_word(&code_run[..band_count], bands, 0);
     copy_lengths(code_lengths, codes, lengths);

@@ -8,6 +8,7 @@ mod handover; // the lent buffers filled
 
 use collect::gather;
 use handover::hand_over;
+use handover::refused;
 use lists::Refusal;
 
 // What reading an order list answers: refused; or how many codes there are, how many bands in them, and how many bytes
@@ -29,16 +30,10 @@ pub fn read_orders(
     ensures { λ r. ⌜ ReadsOrders (now (file .entry)) (lent (now (bands .entry)) (now (lengths .entry)) (now (names .entry)) (now (sizes .entry))) (lent (now (bands .exit)) (now (lengths .exit)) (now (names .exit)) (now (sizes .exit))) r ⌝ }
 {
     if 16384 < file.len() {
-        return Read::Refused(Refusal {
-            number: lists::LONG_FILE,
-            row: 0,
-        });
+        return refused(lists::LONG_FILE, 0);
     }
     if file.len() == 0 {
-        return Read::Refused(Refusal {
-            number: lists::WRONG_HEADING,
-            row: 0,
-        });
+        return refused(lists::WRONG_HEADING, 0);
     }
     let mut code_run = [0u8; 16384];
     let mut code_lengths = [0u16; 128];

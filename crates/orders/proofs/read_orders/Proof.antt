@@ -8,18 +8,24 @@ use Rattle.orders.proofs.HandingOver.{gives-long, gives-empty}
 use Rattle.orders.proofs.read_orders.Statement.{statement}
 use Rattle.orders.proofs.read_orders.Tie as tie
 
+refused-requires : tie.Need-refused-requires
+refused-requires c κs = search needs
+
 returns : tie.Need-returns
 returns c =
-    let a = c .before .before .before .before .before .before .args in
+    let a = c .before .before .before .before .before .before .before .args in
     let b = lent (a .bands .now) (a .lengths .now) (a .names .now) (a .sizes .now) in
-    reads-orders (a .file .now) b (gives-long (a .file .now) b (omega (arith, c .if1 .taken)))
+    reads-orders (a .file .now) b (rw (c .refused .ensures) (gives-long (a .file .now) b (omega (arith, c .before .if1 .taken))))
+
+refused-requires-2 : tie.Need-refused-requires-2
+refused-requires-2 c κs = search needs
 
 returns-2 : tie.Need-returns-2
 returns-2 c =
-    let a = c .before .before .before .before .before .before .before .args in
+    let a = c .before .before .before .before .before .before .before .before .args in
     let b = lent (a .bands .now) (a .lengths .now) (a .names .now) (a .sizes .now) in
     reads-orders (a .file .now) b
-    (gives-empty (a .file .now) b (omega (arith, c .before .if1 .left)) (omega (arith, c .if2 .taken)))
+    (rw (c .refused2 .ensures) (gives-empty (a .file .now) b (omega (arith, c .before .before .if1 .left)) (omega (arith, c .before .if2 .taken))))
 
 slice-aggregate-gather : tie.Need-slice-aggregate-gather
 slice-aggregate-gather c = search needs
@@ -75,7 +81,9 @@ pub read-orders-spec : {M : Type 1} → statement M
 read-orders-spec =
     tie.close
     (tie.spec
+    refused-requires
     returns
+    refused-requires-2
     returns-2
     slice-aggregate-gather
     slice-aggregate-gather-2

@@ -8,20 +8,35 @@ use borrow.Author.Needs.{needs}
 use Rattle.orders.proofs.handover.hand_over.Statement.{statement}
 use Rattle.orders.proofs.handover.hand_over.Tie as tie
 
+refused-requires : tie.Need-refused-requires
+refused-requires c κs = search needs
+
 returns : tie.Need-returns
-returns c = λ x g. gives-refused g _ (c .if1 .taken)
+returns c = λ x g. rw (c .refused .ensures) (gives-refused g _ (c .before .if1 .taken))
+
+refused-requires-2 : tie.Need-refused-requires-2
+refused-requires-2 c κs = search needs
 
 returns-2 : tie.Need-returns-2
-returns-2 c = λ x g. gives-short g _ (c .before .if1 .left) (inl (c .if2 .taken))
+returns-2 c = λ x g. rw (c .refused2 .ensures) (gives-short g _ (c .before .before .if1 .left) (inl (c .before .if2 .taken)))
+
+refused-requires-3 : tie.Need-refused-requires-3
+refused-requires-3 c κs = search needs
 
 returns-3 : tie.Need-returns-3
-returns-3 c = λ x g. gives-short g _ (c .before .before .if1 .left) (inr (inl (c .if3 .taken)))
+returns-3 c = λ x g. rw (c .refused3 .ensures) (gives-short g _ (c .before .before .before .if1 .left) (inr (inl (c .before .if3 .taken))))
+
+refused-requires-4 : tie.Need-refused-requires-4
+refused-requires-4 c κs = search needs
 
 returns-4 : tie.Need-returns-4
-returns-4 c = λ x g. gives-short g _ (c .before .before .before .if1 .left) (inr (inr (inl (c .if4 .taken))))
+returns-4 c = λ x g. rw (c .refused4 .ensures) (gives-short g _ (c .before .before .before .before .if1 .left) (inr (inr (inl (c .before .if4 .taken)))))
+
+refused-requires-5 : tie.Need-refused-requires-5
+refused-requires-5 c κs = search needs
 
 returns-5 : tie.Need-returns-5
-returns-5 c = λ x g. gives-short g _ (c .before .before .before .before .if1 .left) (inr (inr (inr (c .if5 .taken))))
+returns-5 c = λ x g. rw (c .refused5 .ensures) (gives-short g _ (c .before .before .before .before .before .if1 .left) (inr (inr (inr (c .before .if5 .taken)))))
 
 slice-aggregate-put-word : tie.Need-slice-aggregate-put-word
 slice-aggregate-put-word c = sym (length-take-le _ _ (search needs))
@@ -45,14 +60,14 @@ put-word-requires-2 c κs =
 copy-lengths-requires-2 : tie.Need-copy-lengths-requires-2
 copy-lengths-requires-2 c κs = search needs
 
-cast-t34 : tie.Need-cast-t34
-cast-t34 c = search needs
+cast-t29 : tie.Need-cast-t29
+cast-t29 c = search needs
 
-cast-t35 : tie.Need-cast-t35
-cast-t35 c = search needs
+cast-t30 : tie.Need-cast-t30
+cast-t30 c = search needs
 
-cast-t36 : tie.Need-cast-t36
-cast-t36 c = search needs
+cast-t31 : tie.Need-cast-t31
+cast-t31 c = search needs
 
 same-length : tie.Need-same-length
 same-length c = search needs
@@ -81,10 +96,15 @@ pub hand-over-spec : {M : Type 1} → statement M
 hand-over-spec =
     tie.close
     (tie.spec
+    refused-requires
     returns
+    refused-requires-2
     returns-2
+    refused-requires-3
     returns-3
+    refused-requires-4
     returns-4
+    refused-requires-5
     returns-5
     slice-aggregate-put-word
     put-word-requires
@@ -92,9 +112,9 @@ hand-over-spec =
     slice-aggregate-put-word-2
     put-word-requires-2
     copy-lengths-requires-2
-    cast-t34
-    cast-t35
-    cast-t36
+    cast-t29
+    cast-t30
+    cast-t31
     same-length
     same-length-2
     same-length-3
