@@ -1,27 +1,24 @@
 -- Reading so much of its files is enough for a program: what is longer is refused for its length, whatever comes after.
 use mathlib.Core.Path.{_≡_, sym, ap, _∙_}
-use mathlib.Core.Bool.{Bool, true, false, not}
-use mathlib.Core.List.{List}
-use Prim.Native.Nat.{ℕ, _-_, _≤_}
+use mathlib.Core.Bool.{Bool, true, false}
+use mathlib.Core.List.{List, []}
+use Prim.Native.Nat.{ℕ, _-_, _≤_, _<_}
 use native.Mathlib.Omega.{arith}
 use lib.Dec.{eqb}
 use lib.ListN.{length, take, drop}
 use lib.Seq.{length-take-le, take-all}
 use Rattle.words.specs.Tests.{pick, same}
-use Rattle.words.specs.Turn.{turned}
 use Rattle.words.specs.Decides.{Decides, yes, no}
-use Rattle.words.proofs.Deciding.{is-le, is-lt, passes}
-use Rattle.lists.specs.Refusals.{refusal, whole, longFile, longRibbon, unknownColour, when, firstOf}
-use Rattle.lists.specs.Fit.{allBands}
+use Rattle.words.proofs.Deciding.{is-le}
+use Rattle.lists.specs.Refusals.{refusal, whole, longFile, longRibbon}
 use Rattle.grammar.specs.Files.{lineBreak, Orders, bad}
 use Rattle.grammar.specs.Grammar.{long-file}
 use Rattle.grammar.specs.Orders.{readOrders}
 use Rattle.grammar.specs.RibbonFile.{ribbonOf}
 use Rattle.grammar.proofs.Only.{reads-only}
-use Rattle.greedy.specs.Layout.{ribbonFor}
-use Rattle.places.specs.Check.{missingOn}
-use Rattle.places.specs.Answers.{less}
-use Rattle.ribbons.specs.Programs.{refusedLine, ofList, foundLine, checkedLine, checkOutput, ReadsEnough}
+use Rattle.ribbons.specs.Programs.{refusedLine, ofList, checkedLine, checkOutput, ReadsEnough}
+use Rattle.ribbons.specs.Prints as prints
+use Rattle.ribbons.proofs.Prints.{line-ours, check-line-only}
 
 -- what is the same of all rows from a length on needs no more of a row
 same-of-start : {A : Type 0} (f : List ℕ → A) (n : ℕ) (end : A) → ((s : List ℕ) → n ≤ length s → f s ≡ end) → (s : List ℕ)
@@ -50,19 +47,11 @@ ribbon-long s = by (same (drop (length s - 2) s) lineBreak)
     by true = omega (arith, length-take-le (length s - 2) s (omega arith))
     by false = omega arith
 
--- the line by the test of the ribbon's length
-abbrev lineIf : List (List ℕ) → List ℕ → Bool → List ℕ
-lineIf codes row long =
-    let f = firstOf (when long longRibbon) (when (not (allBands row)) unknownColour) in
-    elim (eqb f 0) [
-      | true ↦ foundLine (less (length row) (length (ribbonFor turned codes))) (missingOn turned codes row)
-      | false ↦ refusedLine (whole f)
-    ]
-
 long-ribbon : (codes : List (List ℕ)) (s : List ℕ) → 16387 ≤ length s
     → checkedLine codes (ribbonOf s) ≡ refusedLine (whole longRibbon)
 long-ribbon codes s h =
-    ap (lineIf codes (ribbonOf s)) (passes (is-lt 16384 (length (ribbonOf s))) (omega (arith, ribbon-long s)))
+    let l : 16384 < length (ribbonOf s) = omega (arith, ribbon-long s) in
+    sym (check-line-only (ribbonOf s) [] codes (prints.long-ribbon l (line-ours longRibbon 0)))
 
 of-ribbon : (list file : List ℕ) → checkOutput list (take 16387 file) ≡ checkOutput list file
 of-ribbon list file =
