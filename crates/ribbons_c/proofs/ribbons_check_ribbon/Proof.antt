@@ -1,10 +1,10 @@
--- `check_verdict` tells what check_only answers, case by case.
+-- `ribbons_check_ribbon` tells what check_only answers, case by case.
 use borrow.Author.Needs.{needs}
 use mir.Syntax.{w32}
 use mir.ValLaws.{toZ-ofZ}
-use Rattle.exports.proofs.Verdicts.{tells-verdict, tells-held}
-use Rattle.exports.proofs.check_verdict.Statement.{statement}
-use Rattle.exports.proofs.check_verdict.Tie as tie
+use Rattle.ribbons_c.proofs.Calls.{tells-checked, tells-held}
+use Rattle.ribbons_c.proofs.ribbons_check_ribbon.Statement.{statement}
+use Rattle.ribbons_c.proofs.ribbons_check_ribbon.Tie as tie
 
 check-only-requires : tie.Need-check-only-requires
 check-only-requires c κs = search needs
@@ -21,13 +21,13 @@ enum-known-d c = search needs
 returns : tie.Need-returns
 returns c =
     let a = c .before .before .before .before .before .before .before .args in
-    tells-verdict (a .bands .now) (a .lengths .now) (a .ribbon .now) (c .before .r .given .1)
+    tells-checked (a .bands .now) (a .lengths .now) (a .ribbon .now) (c .before .r .given .1)
     (c .before .before .before .check-only .ensures)
 
 returns-2 : tie.Need-returns-2
 returns-2 c =
     let a = c .before .before .before .before .before .before .before .args in
-    tells-verdict (a .bands .now) (a .lengths .now) (a .ribbon .now) (c .before .k .given .1)
+    tells-checked (a .bands .now) (a .lengths .now) (a .ribbon .now) (c .before .k .given .1)
     (c .before .before .before .check-only .ensures)
 
 returns-3 : tie.Need-returns-3
@@ -37,6 +37,14 @@ returns-3 c =
     (toZ-ofZ w32 (c .before .d .given .0 .0) (record { sfits = c .known-told3 .given .0 .1 }))
     (c .before .before .before .check-only .ensures)
 
-pub check-verdict-spec : {M : Type 1} → statement M
-check-verdict-spec =
-    tie.close (tie.spec check-only-requires enum-known-r enum-known-k enum-known-d returns returns-2 returns-3)
+pub ribbons-check-ribbon-spec : {M : Type 1} → statement M
+ribbons-check-ribbon-spec =
+    tie.close
+    (tie.spec
+    check-only-requires
+    enum-known-r
+    enum-known-k
+    enum-known-d
+    returns
+    returns-2
+    returns-3)

@@ -1,3 +1,0 @@
--- Proofs of the exported calls.
-pub mod Lengths
-pub mod Verdicts

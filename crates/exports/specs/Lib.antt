@@ -1,3 +1,0 @@
--- What the exported calls promise.
-pub mod Lengths
-pub mod Verdicts

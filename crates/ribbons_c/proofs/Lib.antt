@@ -1,0 +1,2 @@
+-- Proofs of the calls for programs in C.
+pub mod Calls

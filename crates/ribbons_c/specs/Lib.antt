@@ -1,0 +1,2 @@
+-- What the calls for programs in C promise.
+pub mod Calls
