@@ -54,9 +54,9 @@ pub extern "C" fn ribbons_read_orders(
     ensures { λ r. ⌜ TellsOrders (now (file .entry)) (lent (now (bands .entry)) (now (lengths .entry)) (now (names .entry)) (now (sizes .entry))) (lent (now (bands .exit)) (now (lengths .exit)) (now (names .exit)) (now (sizes .exit))) r ⌝ }
 {
     match ribbons::read_orders(file, bands, lengths, names, sizes) {
-        Read::Refused(r) => RibbonsOrders {
-            refused: r.number,
-            row: r.row,
+        Read::Refused(fault) => RibbonsOrders {
+            refused: fault.number,
+            row: fault.row,
             codes: 0,
             bands: 0,
             names: 0,

@@ -8,8 +8,8 @@ use Rattle.ribbons_c.proofs.ribbons_read_orders.Tie as tie
 read-orders-requires : tie.Need-read-orders-requires
 read-orders-requires c κs = search needs
 
-enum-known-r : tie.Need-enum-known-r
-enum-known-r c = search needs
+enum-known-fault : tie.Need-enum-known-fault
+enum-known-fault c = search needs
 
 enum-known-codes : tie.Need-enum-known-codes
 enum-known-codes c = search needs
@@ -31,7 +31,7 @@ returns c =
     let k = c .before .before .before .before .before .before .before .before .before .before .before in
     let a = k .before .before .before .before .before .before .before .before .before .before .args in
     tells-orders (a .file .now) (lent (a .bands .now) (a .lengths .now) (a .names .now) (a .sizes .now))
-    (c .before .r .given .1) (k .read-orders .ensures)
+    (c .before .fault .given .1) (k .read-orders .ensures)
 
 same-length-5 : tie.Need-same-length-5
 same-length-5 c = search needs
@@ -57,7 +57,7 @@ ribbons-read-orders-spec =
     tie.close
     (tie.spec
     read-orders-requires
-    enum-known-r
+    enum-known-fault
     enum-known-codes
     same-length
     same-length-2
