@@ -7,6 +7,7 @@
 
 mod lists;
 mod proved;
+mod reading;
 mod reference;
 mod same_method;
 mod slices;
@@ -71,25 +72,35 @@ fn main() -> ExitCode {
         eprintln!("usage: bench REFERENCE-COMMAND; bench/run builds all and calls it");
         return ExitCode::from(2);
     };
+    match measure(&command) {
+        Ok(()) => ExitCode::SUCCESS,
+        Err(message) => {
+            eprintln!("bench: {message}");
+            ExitCode::FAILURE
+        }
+    }
+}
+
+fn measure(command: &OsStr) -> Result<(), String> {
     for work in works() {
         for case in &work.cases {
-            if let Err(message) = compare(&work, case, &command) {
-                eprintln!("bench: {}, {}: {message}", work.name, case.name);
-                return ExitCode::FAILURE;
-            }
+            compare(&work, case, command)
+                .map_err(|message| format!("{}, {}: {message}", work.name, case.name))?;
         }
         print_table(&work, &best_times(&work));
-        let peak = work
-            .cases
-            .iter()
-            .map(|case| peak_of_stack(&work, case))
-            .max();
-        println!(
-            "stack: the proved call takes at most {} bytes on these lists\n",
-            peak.unwrap_or(0)
-        );
+        let peaks = work.cases.iter().map(|case| peak_of_stack(&work, case));
+        print_peak("the proved call", peaks.max());
+        println!();
     }
-    ExitCode::SUCCESS
+    let mut orders = None;
+    let mut ribbon = None;
+    for case in lists::largest() {
+        orders = orders.max(Some(reading::peak_of_orders(&case)?));
+        ribbon = ribbon.max(Some(reading::peak_of_ribbon(&case)?));
+    }
+    print_peak("reading an order list", orders);
+    print_peak("taking the ribbon out of a file", ribbon);
+    Ok(())
 }
 
 /// Every way has the outcome that the reference says.
@@ -139,6 +150,11 @@ fn print_table(work: &Work, times: &[[Duration; WAYS.len()]]) {
             proved / slices
         );
     }
+}
+
+fn print_peak(name: &str, peak: Option<usize>) {
+    let bytes = peak.unwrap_or(0);
+    println!("stack: {name} takes at most {bytes} bytes on these lists");
 }
 
 fn peak_of_stack(work: &Work, case: &Case) -> usize {

@@ -76,8 +76,8 @@ fn run(command: &mut Command, case: &Case) -> Result<Vec<u8>> {
     Ok(written)
 }
 
-/// Every name in quotes, each quote inside doubled.
-fn order_list(case: &Case) -> Vec<u8> {
+/// The order list of a case: every name in quotes, each quote inside doubled.
+pub fn order_list(case: &Case) -> Vec<u8> {
     let mut file = b"name,code\r\n".to_vec();
     let names = parts(&case.names, &case.sizes);
     for (name, code) in names.into_iter().zip(parts(&case.bands, &case.lengths)) {
