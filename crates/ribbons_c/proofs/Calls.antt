@@ -1,5 +1,5 @@
--- No answer is lost in its plain form: a refusal's number is above 0, and but for order lists its row is 0. So what an
--- answer tells, its plain form tells.
+-- No answer is lost in its plain form: the number of a refusal is above 0, and its row is 0 but for order lists. So the plain
+-- form of an answer that keeps a contract is read as that answer.
 use mathlib.Core.Path.{_≡_, refl, sym, ap, subst, _∙_}
 use mathlib.Core.Bool.{true}
 use mathlib.Core.List.{List}
@@ -34,12 +34,12 @@ use Rattle.writer.specs.declared.Wrote.the-variants as write
 use Rattle.ribbons_c.specs.Calls.{Tells, byNumber, plainRead, readOf, TellsOrders, plainLaid, laidOf, TellsLaid}
 use Rattle.ribbons_c.specs.Calls.{plainChecked, checkedOf, TellsChecked, plainWrote, wroteOf, TellsSheet, TellsRibbon}
 
--- An answer x that is known to be y, and is not lost in its plain form.
-module _ {A B : Type 0} {meets : A → Type 0} {plain : A → B} {back : B → A} where
-  tells : {x y : A} {r : B} → ((a : A) → meets a → back (plain a) ≡ a) → x ≡ y → meets x → r ≡ plain y
-      → Tells meets plain back r
+-- an answer x that is known to be y
+module _ {A B : Type 0} {meets : A → Type 0} {plain : A → B} {readAs : B → A} where
+  tells : {x y : A} {r : B} → ((a : A) → meets a → readAs (plain a) ≡ a) → x ≡ y → meets x → r ≡ plain y
+      → Tells meets plain readAs r
   tells {y = y} kept e m t =
-      let z = ap back t ∙ kept y (subst meets e m) in
+      let z = ap readAs t ∙ kept y (subst meets e m) in
       record { meant = subst meets (e ∙ sym z) m; plainly = t ∙ sym (ap plain z) }
 
 by-number : {A : Type 0} (n : ℕ) (given refused : A) → 0 < n → byNumber n given refused ≡ refused

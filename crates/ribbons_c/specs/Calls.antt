@@ -1,5 +1,5 @@
--- What the calls for programs in C promise: their plain answers stand for answers that keep the contracts of the calls in
--- `ribbons`, with all that these mean.
+-- What the calls for programs in C promise: each answers in plain data that stands for one answer of a call of `ribbons`, and
+-- this one keeps that call's contract, with all that it means, demand 3 too.
 use mathlib.Core.Path.{_≡_}
 use mathlib.Core.Bool.{true, false}
 use mathlib.Core.List.{List}
@@ -26,13 +26,13 @@ use Rattle.ribbons_c.specs.declared.RibbonsLaid.{RibbonsLaid}
 use Rattle.ribbons_c.specs.declared.RibbonsChecked.{RibbonsChecked}
 use Rattle.ribbons_c.specs.declared.RibbonsSheet.{RibbonsSheet}
 
--- A plain answer r of a call that meets its contract with an answer from A: read back, r is such an answer, and it is that
--- one's plain form, so that nothing else is in it.
-pub record Tells {A B : Type 0} (meets : A → Type 0) (plain : A → B) (back : B → A) (r : B) : Type 0 where
-  pub meant : meets (back r)
-  pub plainly : r ≡ plain (back r)
+-- A plain answer r of a call whose contract is meets: the answer that r is read as keeps the contract, and r is its plain
+-- form, so that nothing else stands in it.
+pub record Tells {A B : Type 0} (meets : A → Type 0) (plain : A → B) (readAs : B → A) (r : B) : Type 0 where
+  pub meant : meets (readAs r)
+  pub plainly : r ≡ plain (readAs r)
 
--- It is read by its number: 0 stands for no refusal, and every other for itself.
+-- An answer is read by its number: 0 stands for no refusal, and any other for the refusal of that number.
 abbrev pub byNumber : {A : Type 0} → ℕ → A → A → A
 byNumber zero given refused = given
 byNumber (suc n) given refused = refused
