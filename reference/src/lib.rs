@@ -5,6 +5,7 @@
 
 mod check;
 pub mod cut;
+pub mod drive;
 mod drop;
 mod join;
 mod lay;

@@ -1,7 +1,7 @@
 //! Lists of codes full of ties: codes in codes, turned forms, palindromes,
 //! equal codes and overlaps of every kind.
 
-use crate::chance::Chance;
+use reference::drive::chance::Chance;
 
 pub type Code = Vec<u8>;
 

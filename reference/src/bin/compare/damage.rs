@@ -1,9 +1,9 @@
 //! Files damaged anywhere, by somebody who doesn't know what they say.
 
-use crate::chance::Chance;
 use crate::codes::turned;
 use crate::faults::unprinted;
 use crate::orders::quoted;
+use reference::drive::chance::Chance;
 
 type Damage = fn(&mut Chance, &[u8]) -> Vec<u8>;
 

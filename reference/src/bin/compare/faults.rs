@@ -1,8 +1,8 @@
 //! A fault put into one row, by its number in the table of document 01.
 
-use crate::chance::Chance;
 use crate::codes::MOST_BANDS;
 use crate::orders::{name_of, quoted, Row, MOST_NAME_BYTES};
+use reference::drive::chance::Chance;
 
 const WRONG_HEADINGS: [[&[u8]; 2]; 8] = [
     [b"Name", b"code"],

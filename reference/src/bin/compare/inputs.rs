@@ -1,11 +1,12 @@
 //! The inputs: each follows from the program, the seed and its number alone.
 
-use crate::chance::Chance;
-use crate::files::{File, NAMINGS};
 use crate::kinds::{kind_at, Kind, SHARES};
 use crate::lists::{kind_of, AT_THE_BOUND};
-use crate::programs::Program;
+use crate::namings::NAMINGS;
 use crate::supplied::{codes_for, ENDINGS, RIBBONS, SHORTEST};
+use reference::drive::chance::Chance;
+use reference::drive::files::File;
+use reference::drive::programs::Program;
 
 pub struct Input {
     /// What it was made as, in words.
@@ -16,6 +17,25 @@ pub struct Input {
     pub cut: Option<usize>,
     /// What the arguments name, one after the other.
     pub files: Vec<File>,
+}
+
+impl Input {
+    /// What the reference writes. A file that isn't named has 0 bytes.
+    pub fn expected(&self, program: Program) -> Vec<u8> {
+        let file = |i: usize| self.files.get(i).map_or(&[][..], |file| file.bytes());
+        match program {
+            Program::Check => program.expected(file(0), file(1)),
+            _ => program.expected(&self.bytes, &[]),
+        }
+    }
+
+    /// What is handed over at a time.
+    pub fn parts(&self) -> Vec<&[u8]> {
+        match self.cut {
+            Some(cut) => vec![&self.bytes[..cut], &self.bytes[cut..]],
+            None => vec![&self.bytes],
+        }
+    }
 }
 
 /// All programs get the same order lists.

@@ -1,10 +1,10 @@
 //! Files on both sides of each limit of document 01.
 
-use crate::chance::Chance;
 use crate::codes::{few, largest, one_band_changed, turned, Code, MOST_BANDS, MOST_CODES};
 use crate::damage::damaged;
 use crate::faults::{numbers_for, put};
 use crate::orders::{name_of, order_list, quoted, rows, written, MOST_NAME_BYTES};
+use reference::drive::chance::Chance;
 
 const MOST_FILE_BYTES: usize = 16_384;
 

@@ -1,12 +1,12 @@
 //! The order lists: each follows from a chance and its number alone.
 
-use crate::chance::Chance;
 use crate::codes::*;
 use crate::damage::damaged;
 use crate::faults::{numbers_for, put};
 use crate::kinds::{kind, kind_at, Kind, SHARES};
 use crate::limits;
 use crate::orders::{order_list, rows, written};
+use reference::drive::chance::Chance;
 
 type Make = fn(&mut Chance) -> Vec<u8>;
 

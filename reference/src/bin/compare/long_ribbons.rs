@@ -1,9 +1,9 @@
 //! Ribbons on both sides of 16,384 bands.
 
-use crate::chance::Chance;
 use crate::codes::Code;
 use crate::merges::{all_but_one, arranged, merged};
 use crate::supplied::{no_band_byte, BANDS};
+use reference::drive::chance::Chance;
 
 pub const MOST_RIBBON_BANDS: usize = 16_384;
 

@@ -2,43 +2,41 @@
 
 #![forbid(unsafe_code)]
 
-mod chance;
 mod codes;
 mod damage;
 mod faults;
-mod files;
 mod inputs;
 mod kinds;
 mod limits;
 mod lists;
 mod long_ribbons;
 mod merges;
+mod namings;
 mod orders;
-mod outcomes;
-mod programs;
 mod report;
-mod run;
 mod show;
 mod supplied;
 #[cfg(test)]
 mod tests;
 
-use files::Room;
 use inputs::input;
-use programs::Program;
+use reference::drive::files::Room;
+use reference::drive::programs::Program;
+use reference::drive::run::{run, Ending};
 use report::Tally;
-use run::{run, Ending};
 use std::io::{self, Write};
-use std::path::{Path, PathBuf};
+use std::path::PathBuf;
 use std::process::ExitCode;
 use std::sync::atomic::{AtomicU64, Ordering};
 use std::thread;
+use std::time::Duration;
 
 const USAGE: &str = "usage: compare PROGRAM --program PATH [COUNT [SEED]]
        compare PROGRAM --show NUMBER [SEED]
 PROGRAM is ribbon, sheet or check";
 const COUNT: u64 = 20_000;
 const SEED: u64 = 1;
+const TIME_LIMIT: Duration = Duration::from_secs(30);
 
 struct Options {
     program: Program,
@@ -109,7 +107,7 @@ fn compare(options: &Options) -> io::Result<ExitCode> {
     let tally = run_all(options)?;
     for (number, answer) in &tally.first {
         let input = input(options.program, options.seed, *number);
-        let expected = options.program.expected(&input);
+        let expected = input.expected(options.program);
         println!("{}", show::difference(*number, &input, &expected, answer));
     }
     println!("{}", tally.summary(options.seed));
@@ -139,16 +137,11 @@ fn take_turns(options: &Options, next: &AtomicU64, room: Room) -> io::Result<Tal
         }
         let input = input(options.program, options.seed, number);
         let names = room.lay_out(&input.files)?;
-        let answer =
-            run(&options.path, &names, &input).map_err(|error| named(&options.path, error))?;
+        let answer = run(&options.path, &names, &input.parts(), TIME_LIMIT)?;
         if answer.ending == Ending::TooLate {
             // All others may take as long: begin no more.
             next.store(options.count + 1, Ordering::Relaxed);
         }
-        tally.add(number, &options.program.expected(&input), answer);
+        tally.add(number, &input.expected(options.program), answer);
     }
-}
-
-fn named(program: &Path, error: io::Error) -> io::Error {
-    io::Error::other(format!("{}: {error}", program.display()))
 }

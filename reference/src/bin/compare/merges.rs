@@ -1,7 +1,7 @@
 //! Rows on which codes stand, made by merging them in any order.
 
-use crate::chance::Chance;
 use crate::codes::{turned, Code};
+use reference::drive::chance::Chance;
 
 /// In some order, each some way round.
 pub fn arranged(chance: &mut Chance, codes: &[Code]) -> Vec<Code> {

@@ -1,8 +1,8 @@
 //! Order lists as a writer may write them: any names, quoted or not.
 
-use crate::chance::Chance;
 use crate::codes::Code;
 use crate::faults::broken;
+use reference::drive::chance::Chance;
 
 pub const MOST_NAME_BYTES: usize = 24;
 

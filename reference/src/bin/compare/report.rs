@@ -1,8 +1,8 @@
 //! The counts of a run, and what makes it fail.
 
-use crate::outcomes::{outcome_of, Outcome};
-use crate::programs::Program;
-use crate::run::{Answer, Ending};
+use reference::drive::outcomes::{outcome_of, Outcome};
+use reference::drive::programs::Program;
+use reference::drive::run::{Answer, Ending};
 use std::collections::BTreeMap;
 
 /// A shorter run need not have every outcome.
@@ -36,7 +36,7 @@ impl Tally {
         self.inputs += 1;
         *self.given.entry(outcome_of(expected)).or_default() += 1;
         self.too_late |= answer.ending == Ending::TooLate;
-        if answer.bytes != expected || answer.ending != Ending::Success {
+        if !answer.is(expected) {
             self.differ += 1;
             self.keep(number, answer);
         }

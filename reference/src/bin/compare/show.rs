@@ -1,7 +1,7 @@
 //! A difference as a reader can read it.
 
 use crate::inputs::Input;
-use crate::run::{Answer, Ending};
+use reference::drive::run::{Answer, Ending};
 use std::ffi::OsString;
 
 const SHOWN_LINES: usize = 12;
@@ -13,10 +13,14 @@ pub fn difference(number: u64, input: &Input, expected: &[u8], answer: &Answer) 
         Ending::Failure(status) => format!(" ({status})"),
         Ending::TooLate => " (took too long)".to_string(),
     };
+    let said = match &answer.said[..] {
+        [] => String::new(),
+        said => format!(", on standard error: {}", around(said, 0)),
+    };
     let pairs = expected.iter().zip(&answer.bytes);
     let alike = pairs.take_while(|(one, other)| one == other).count();
     format!(
-        "input {number} differs ({}):\n{}  reference: {}\n  program:   {}{ending}",
+        "input {number} differs ({}):\n{}  reference: {}\n  program:   {}{ending}{said}",
         input.kind,
         given(input),
         around(expected, alike),

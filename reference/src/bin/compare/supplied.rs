@@ -1,11 +1,11 @@
 //! Ribbons to be checked against a list's codes, fit and unfit.
 
-use crate::chance::Chance;
 use crate::codes::{few, one_band_changed, turned, Code, MOST_BANDS, MOST_CODES};
 use crate::kinds::{kind, Kind};
 use crate::long_ribbons::*;
 use crate::merges::{all_but_one, arranged, merged, shortest, with};
 use crate::orders::{order_list, MOST_NAME_BYTES};
+use reference::drive::chance::Chance;
 use reference::{lay_ribbon, read_orders};
 
 type Make = fn(&mut Chance, &[Code]) -> Vec<u8>;

@@ -1,21 +1,22 @@
 //! The generator makes what it says, and no fault goes unseen in the counts.
 
-use crate::chance::Chance;
 use crate::codes::{few, turned, Code, MOST_CODES};
 use crate::damage::DAMAGES;
 use crate::faults::{numbers_for, put};
-use crate::files::{File, Room, NAMINGS};
 use crate::inputs::{input, Input};
 use crate::kinds::{kind_at, Kind, SHARES};
 use crate::lists::{kind_of, KINDS};
 use crate::merges::{stands, stands_given};
+use crate::namings::NAMINGS;
 use crate::orders::{order_list, rows, written};
-use crate::outcomes::{outcome_of, Outcome};
-use crate::programs::Program::{self, Check, Ribbon, Sheet};
 use crate::report::Tally;
-use crate::run::{Answer, Ending};
 use crate::supplied::{codes_for, ENDINGS, RIBBONS};
 use crate::{limits, show};
+use reference::drive::chance::Chance;
+use reference::drive::files::{File, Room};
+use reference::drive::outcomes::{outcome_of, Outcome};
+use reference::drive::programs::Program::{self, Check, Ribbon, Sheet};
+use reference::drive::run::{Answer, Ending};
 use reference::{Read, Refusal};
 use std::collections::BTreeSet;
 
@@ -103,7 +104,7 @@ fn a_thousand_lists_have_every_number() {
 fn two_thousand_checks_have_every_outcome() {
     // The largest lists take long without optimization.
     let small = (1..=2_000).filter(|number| !kind_of(*number).name.starts_with("largest"));
-    let outcomes = small.map(|number| outcome_of(&Check.expected(&input(Check, 1, number))));
+    let outcomes = small.map(|number| outcome_of(&input(Check, 1, number).expected(Check)));
     let outcomes: BTreeSet<Outcome> = outcomes.collect();
     assert_eq!(outcomes, Check.outcomes().into_iter().collect());
 }
@@ -300,6 +301,7 @@ fn the_longest_accepted_file() {
 fn answer(bytes: &[u8]) -> Answer {
     Answer {
         bytes: bytes.to_vec(),
+        said: Vec::new(),
         ending: Ending::Success,
     }
 }

@@ -1,10 +1,10 @@
 //! The three programs, and what is expected of each.
 
-use crate::inputs::Input;
-use crate::outcomes::Outcome::{self, *};
-use reference::{check_output, ribbon_output, sheet_output};
+use super::outcomes::Outcome::{self, *};
+use crate::{check_output, ribbon_output, sheet_output};
+use std::fmt;
 
-#[derive(Clone, Copy, Debug, PartialEq)]
+#[derive(Clone, Copy, Debug, PartialEq, Eq, PartialOrd, Ord)]
 pub enum Program {
     Ribbon,
     Sheet,
@@ -21,13 +21,12 @@ impl Program {
         }
     }
 
-    /// What the reference writes. A file that isn't named has 0 bytes.
-    pub fn expected(self, input: &Input) -> Vec<u8> {
-        let file = |i: usize| input.files.get(i).map_or(&[][..], |file| file.bytes());
+    /// What the reference writes. Only the check looks at the ribbon file.
+    pub fn expected(self, list: &[u8], ribbon_file: &[u8]) -> Vec<u8> {
         match self {
-            Program::Ribbon => ribbon_output(&input.bytes),
-            Program::Sheet => sheet_output(&input.bytes),
-            Program::Check => check_output(file(0), file(1)),
+            Program::Ribbon => ribbon_output(list),
+            Program::Sheet => sheet_output(list),
+            Program::Check => check_output(list, ribbon_file),
         }
     }
 
@@ -44,5 +43,16 @@ impl Program {
         };
         let list: Vec<Outcome> = (1..=11).map(Refused).collect();
         [accepted, &list, ribbon].concat()
+    }
+}
+
+/// The word that names it.
+impl fmt::Display for Program {
+    fn fmt(&self, out: &mut fmt::Formatter) -> fmt::Result {
+        out.pad(match self {
+            Program::Ribbon => "ribbon",
+            Program::Sheet => "sheet",
+            Program::Check => "check",
+        })
     }
 }

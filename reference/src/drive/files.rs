@@ -1,6 +1,5 @@
 //! Files that are named as arguments, and a folder to hold them.
 
-use crate::kinds::{kind, Kind};
 use std::ffi::OsString;
 use std::path::{Path, PathBuf};
 use std::{env, fs, io, process};
@@ -19,7 +18,7 @@ pub enum File {
 use File::*;
 
 /// The system opens no name that has more bytes.
-const MOST_PATH_BYTES: usize = 4_095;
+pub const MOST_PATH_BYTES: usize = 4_095;
 
 impl File {
     /// What can't be opened or read counts as 0 bytes.
@@ -32,55 +31,6 @@ impl File {
     }
 }
 
-type Naming = fn(Vec<u8>, Vec<u8>) -> Vec<File>;
-
-/// How the arguments name an order list and a ribbon file.
-pub const NAMINGS: [Kind<Naming>; 16] = [
-    kind("both files named", 860, |list, ribbon| {
-        vec![Holding(list), Holding(ribbon)]
-    }),
-    kind("no argument", 10, |_, _| vec![]),
-    kind("one argument", 20, |list, _| vec![Holding(list)]),
-    kind("the list not there", 10, |_, ribbon| {
-        vec![Absent, Holding(ribbon)]
-    }),
-    kind("the ribbon not there", 20, |list, _| {
-        vec![Holding(list), Absent]
-    }),
-    kind("neither there", 5, |_, _| vec![Absent, Absent]),
-    kind("a folder for the list", 5, |_, ribbon| {
-        vec![Folder, Holding(ribbon)]
-    }),
-    kind("a folder for the ribbon", 10, |list, _| {
-        vec![Holding(list), Folder]
-    }),
-    kind("an empty name for the list", 5, |_, ribbon| {
-        vec![Nameless, Holding(ribbon)]
-    }),
-    kind("an empty name for the ribbon", 5, |list, _| {
-        vec![Holding(list), Nameless]
-    }),
-    kind("a third argument", 15, |list, ribbon| {
-        vec![Holding(list), Holding(ribbon), Nameless]
-    }),
-    kind("further files", 15, |list, ribbon| {
-        let (first, second) = (Holding(list.clone()), Holding(ribbon.clone()));
-        vec![first, second, Holding(list), Absent, Holding(ribbon)]
-    }),
-    kind("a long name for the list", 5, |list, ribbon| {
-        vec![LongNamed(MOST_PATH_BYTES, list), Holding(ribbon)]
-    }),
-    kind("a long name for the ribbon", 5, |list, ribbon| {
-        vec![Holding(list), LongNamed(MOST_PATH_BYTES, ribbon)]
-    }),
-    kind("too long a name for the list", 5, |list, ribbon| {
-        vec![LongNamed(MOST_PATH_BYTES + 1, list), Holding(ribbon)]
-    }),
-    kind("too long a name for the ribbon", 5, |list, ribbon| {
-        vec![Holding(list), LongNamed(MOST_PATH_BYTES + 1, ribbon)]
-    }),
-];
-
 /// A folder for the files of one input at a time, gone when it is dropped.
 pub struct Room {
     folder: PathBuf,
@@ -90,7 +40,7 @@ pub struct Room {
 impl Room {
     /// In memory where there is such a place; each worker has its own.
     pub fn of_worker(worker: usize) -> io::Result<Room> {
-        let name = format!("compare-{}-{worker}", process::id());
+        let name = format!("reference-{}-{worker}", process::id());
         let place = |folder: PathBuf| Room::at(folder.join(&name), false);
         place("/dev/shm".into()).or_else(|_| place(env::temp_dir()))
     }

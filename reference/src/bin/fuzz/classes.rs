@@ -1,0 +1,49 @@
+//! What came of a case, roughly: a case of a new class is worth changing.
+
+use crate::changes::LIMITS;
+use crate::trial::Trial;
+use reference::drive::outcomes::{outcome_of, Outcome};
+use reference::drive::programs::Program;
+
+pub type Class = (Program, Outcome, [Size; 5]);
+
+/// Exact where it is small or at a limit, else to a power of two.
+#[derive(Clone, Copy, Debug, PartialEq, Eq, PartialOrd, Ord)]
+pub enum Size {
+    Exact(usize),
+    About(usize),
+}
+
+const SMALL: usize = 4;
+
+fn size(number: usize) -> Size {
+    let about_129 = (127..=131).contains(&number);
+    match number <= SMALL || about_129 || LIMITS.contains(&number) {
+        true => Size::Exact(number),
+        false => Size::About(number.next_power_of_two()),
+    }
+}
+
+pub fn class(trial: &Trial) -> Class {
+    let (case, expected) = (&trial.case, &trial.expected);
+    let ribbon = match trial.program {
+        Program::Check => case.ribbon.len(),
+        _ => 0,
+    };
+    let quotes = case.list.iter().filter(|byte| **byte == b'"').count();
+    let sizes = [
+        last_number(expected),
+        expected.len(),
+        case.list.len(),
+        ribbon,
+        quotes,
+    ];
+    (trial.program, outcome_of(expected), sizes.map(size))
+}
+
+/// The row, the difference or the code of an answer in one line; 0 of others.
+fn last_number(expected: &[u8]) -> usize {
+    let text = String::from_utf8_lossy(expected);
+    let last = text.trim_end().rsplit([',', '-']).next();
+    last.and_then(|word| word.parse().ok()).unwrap_or(0)
+}
