@@ -54,7 +54,7 @@ impl Options {
             ("--lists", _) => self.lists = paths.collect(),
             ("--ribbons", _) => self.ribbons = paths.collect(),
             ("--keep", [folder]) => self.keep = folder.into(),
-            ("--", [numbers @ ..]) if numbers.len() <= 2 => {
+            ("--", numbers) if numbers.len() <= 2 => {
                 let minutes = numbers.first().map_or(Some(MINUTES), |n| n.parse().ok())?;
                 self.time = Duration::try_from_secs_f64(60.0 * minutes).ok()?;
                 self.seed = numbers.get(1).map_or(Some(SEED), |n| n.parse().ok())?;
