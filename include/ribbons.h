@@ -81,7 +81,7 @@ struct ribbons_sheet {
 
 /* Reads an order list, an RFC 4180 file with the heading row name,code: its codes to the beginnings of bands and lengths,
    its names to those of names and sizes. Refuses by 1, then by the earliest faulty row and its lowest number of 2 to 10,
-   then by 11, then by 13. Stack, measured: 36,808 bytes. */
+   then by 11, then by 13. Stack, measured: 33,728 bytes. */
 struct ribbons_orders ribbons_read_orders(
     const uint8_t *file, size_t file_count,
     uint8_t *bands, size_t bands_count,
@@ -114,7 +114,7 @@ struct ribbons_sheet ribbons_write_sheet(
     uint8_t *out, size_t out_count);
 
 /* How many bytes at the beginning of a ribbon file are its ribbon: one CR LF at its very end is not part of it. It refuses
-   nothing. Stack: none. */
+   nothing. Stack, measured: under 100 bytes. */
 size_t ribbons_ribbon_of(const uint8_t *file, size_t file_count);
 
 #ifdef __cplusplus
