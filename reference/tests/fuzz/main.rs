@@ -8,10 +8,19 @@ const HERE: &str = env!("CARGO_MANIFEST_DIR");
 
 /// Status, text, and the folder where a difference is kept.
 fn fuzz(program: &str, fault: &str, minutes: &str) -> (Option<i32>, String, PathBuf) {
+    fuzz_at("tests/compare/stand-in", program, fault, minutes)
+}
+
+fn fuzz_at(
+    path: &str,
+    program: &str,
+    fault: &str,
+    minutes: &str,
+) -> (Option<i32>, String, PathBuf) {
     let keep = Path::new(env!("CARGO_TARGET_TMPDIR")).join(format!("fuzz-{program}-{fault}"));
     let _ = fs::remove_dir_all(&keep);
     let output = Command::new(env!("CARGO_BIN_EXE_fuzz"))
-        .args([&format!("--{program}"), "tests/compare/stand-in", "--keep"])
+        .args([&format!("--{program}"), path, "--keep"])
         .arg(&keep)
         .args(["--lists", "../examples/bench.csv"])
         .args(["--ribbons", "../expected/bench.ribbon.stdout"])
@@ -77,4 +86,10 @@ fn a_difference_is_made_small() {
     let list = fs::read(keep.join("ribbon.list")).unwrap();
     // One byte is enough to break row 1.
     assert_eq!(list.len(), 1, "{list:?}");
+}
+
+#[test]
+fn what_cannot_be_run_has_status_2() {
+    let (status, text, _) = fuzz_at("tests/compare/none", "sheet", "none", "0.5");
+    assert_eq!((status, &text[..]), (Some(2), ""));
 }

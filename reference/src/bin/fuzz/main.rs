@@ -22,7 +22,7 @@ use report::Tally;
 use shrink::shrunk;
 use std::io;
 use std::process::ExitCode;
-use std::sync::atomic::AtomicBool;
+use std::sync::atomic::{AtomicBool, Ordering};
 use std::thread;
 use std::time::Instant;
 use trial::Trial;
@@ -63,7 +63,14 @@ fn run_all(options: &Options, start: Instant) -> io::Result<(Tally, Option<Trial
     let end = start + options.time;
     thread::scope(|scope| {
         let stop = &stop;
-        let workers = [1, 2].map(|worker| scope.spawn(move || work(options, worker, end, stop)));
+        let workers = [1, 2].map(|worker| {
+            scope.spawn(move || {
+                let done = work(options, worker, end, stop);
+                // Whatever ended it ends the other.
+                stop.store(true, Ordering::Relaxed);
+                done
+            })
+        });
         let [one, two] = workers.map(|worker| worker.join().expect("it does not panic"));
         let ((tally, first), (other, second)) = (one?, two?);
         Ok((tally.merged(other), first.or(second)))

@@ -15,7 +15,7 @@ use std::io;
 use std::sync::atomic::{AtomicBool, Ordering};
 use std::time::Instant;
 
-/// Goes on to the end of the time, or to the first difference of any worker.
+/// Goes on to the first difference, to the end of the time, or until it is stopped.
 pub fn work(
     options: &Options,
     worker: usize,
@@ -27,17 +27,16 @@ pub fn work(
     let room = Room::of_worker(worker)?;
     let mut tally = Tally::default();
     for (program, path) in options.programs.iter().cycle() {
-        if Instant::now() >= end || stop.load(Ordering::Relaxed) {
-            break;
-        }
         let case = next_case(&mut chance, &corpus, *program);
         let trial = Trial::of(*program, path, case, &room)?;
         tally.add(*program, &trial.expected);
         if trial.differs() {
-            stop.store(true, Ordering::Relaxed);
             return Ok((tally, Some(trial)));
         }
         corpus.offer(&mut chance, class(&trial), trial.case);
+        if Instant::now() >= end || stop.load(Ordering::Relaxed) {
+            break;
+        }
     }
     tally.classes = corpus.classes();
     Ok((tally, None))
