@@ -47,7 +47,7 @@ each-record (x ∷ xs) [] h = absurd h
 each-record (x ∷ xs) (u ∷ us) h = (h .0, each-record xs us (h .1))
 
 row-of : (xs : List Place) (vs : List Val) → Is (Array (P.the-field .row) 128) (map (P.the-field .into) xs) vs
-    → Is Row xs vs
+    → Is (Row 128) xs vs
 row-of xs vs h =
     (h .0, ((h .1 .0 .0, sym (length-map xs (P.the-field .into)) ∙ h .1 .0 .1), each-record xs (h .0) (h .1 .1)))
 
@@ -58,14 +58,14 @@ module _ (r : Findings) (u : Val) (is : Is F.the-row r (u ∷ [])) where
   pub due-fits : r .due < 2 ^ 64
   due-fits = LL.owed F.the-type F′.the-laws r (u ∷ []) is .1 .0 .1
 
-  told : Is Row (r .records) (fieldVals (r .records))
+  told : Is (Row 128) (r .records) (fieldVals (r .records))
   told = row-of (r .records) (fieldVals (r .records)) (LL.owed F.the-type F′.the-laws r (u ∷ []) is .1 .1 .0)
 
   told-as : fieldVals (r .records) ≡ rowVal (r .records) ∷ []
-  told-as = row-tells (r .records) (fieldVals (r .records)) told
+  told-as = row-tells 128 (r .records) (fieldVals (r .records)) told
 
-  pub records-are : Is Row (r .records) (rowVal (r .records) ∷ [])
-  records-are = subst (Is Row (r .records)) told-as told
+  pub records-are : Is (Row 128) (r .records) (rowVal (r .records) ∷ [])
+  records-are = subst (Is (Row 128) (r .records)) told-as told
 
   pub found-is : u ≡ foundVal r
   found-is =

@@ -1,5 +1,5 @@
--- A row of 128 records as the machine has it: one value in a local, or its elements side by side in memory, and from one to
--- the other. A walk reads a record of the row from its elements.
+-- A row of n records as the machine has it: one value in a local, or its elements side by side in memory, and from one to
+-- the other. A walk reads a record of the row from its elements, or lends some of them.
 use mathlib.Core.Path.{_≡_}
 use mathlib.Core.List.{[], _∷_, List}
 use Prim.Native.Nat.{ℕ}
@@ -28,11 +28,11 @@ use Rattle.places.proofs.Place as P
 use Rattle.places.proofs.Place.Laws as P′
 
 -- the type of the row, also as MIR has it, and its machine value
-abbrev pub Row : RattleType
-Row = Array P.the-row 128
+abbrev pub Row : ℕ → RattleType
+Row n = Array P.the-row n
 
-abbrev pub rowTy : Ty
-rowTy = tyArray P′.mir 128
+abbrev pub rowTy : ℕ → Ty
+rowTy n = tyArray P′.mir n
 
 abbrev pub rowVals : List Place → List Val
 rowVals = array-vals (LL.vals P.the-type P′.the-laws)
@@ -44,30 +44,30 @@ first (v ∷ vs) = v
 abbrev pub rowVal : List Place → Val
 rowVal xs = first (rowVals xs)
 
-pub row-tells : Tells Row (Is Row) rowVals
-row-tells = array-tells P.the-row (LL.vals P.the-type P′.the-laws) (LL.tells P.the-type P′.the-laws) 128
+pub row-tells : (n : ℕ) → Tells (Row n) (Is (Row n)) rowVals
+row-tells = array-tells P.the-row (LL.vals P.the-type P′.the-laws) (LL.tells P.the-type P′.the-laws)
 
-module _ {M : Type 1} (𝓤 : URA M) (H : Heap 𝓤) (A : Atoms 𝓤) (W : Given 𝓤 H A) where
-  pub row-makes : Makes 𝓤 H A Row (Is Row)
-  row-makes = array-makes 𝓤 H A W P.the-row (LL.makes P.the-type P′.the-plain 𝓤 H A) 128
+module _ {M : Type 1} (𝓤 : URA M) (H : Heap 𝓤) (A : Atoms 𝓤) (W : Given 𝓤 H A) (n : ℕ) where
+  pub row-makes : Makes 𝓤 H A (Row n) (Is (Row n))
+  row-makes = array-makes 𝓤 H A W P.the-row (LL.makes P.the-type P′.the-plain 𝓤 H A) n
 
-  pub apart : (xs : List Place) (b : ℕ) → Is Row xs (rowVal xs ∷ [])
-      → ent 𝓤 (⋆ 𝓤 H A (‵ (fat fullShare rowTy b 0 (rowVal xs)) ∷ [])) (sem 𝓤 H A (row P.the-row fullShare xs b 0))
+  pub apart : (xs : List Place) (b : ℕ) → Is (Row n) xs (rowVal xs ∷ [])
+      → ent 𝓤 (⋆ 𝓤 H A (‵ (fat fullShare (rowTy n) b 0 (rowVal xs)) ∷ [])) (sem 𝓤 H A (row P.the-row fullShare xs b 0))
   unfolding partOf
   apart xs b is =
-      qed W (‵ (fat fullShare rowTy b 0 (rowVal xs)) ∷ []) ∵
-      use1 W (‵ (cellAt fullShare (Row .mir) (rowVal xs ∷ []) b 0)) (W .laws .at-raw fullShare rowTy b 0 (rowVal xs)) $
-      owned ! Row (Is Row) row-makes xs _ is $ move ! (1 ∷ 0 ∷ []) $ fjoin ! $
-      fpack ! (List Val) (λ vs. fsep (cellAt fullShare (Row .mir) vs b 0) (Row .own xs vs)) (rowVal xs ∷ []) $
-      use1 W (‵ (arr-parts (shares P.the-row) 128 .part fullShare xs b 0)) (array-apart 𝓤 H A W P.the-row fullShare tt 128 xs b 0) $
+      qed W (‵ (fat fullShare (rowTy n) b 0 (rowVal xs)) ∷ []) ∵
+      use1 W (‵ (cellAt fullShare (Row n .mir) (rowVal xs ∷ []) b 0)) (W .laws .at-raw fullShare (rowTy n) b 0 (rowVal xs)) $
+      owned ! (Row n) (Is (Row n)) row-makes xs _ is $ move ! (1 ∷ 0 ∷ []) $ fjoin ! $
+      fpack ! (List Val) (λ vs. fsep (cellAt fullShare (Row n .mir) vs b 0) (Row n .own xs vs)) (rowVal xs ∷ []) $
+      use1 W (‵ (arr-parts (shares P.the-row) n .part fullShare xs b 0)) (array-apart 𝓤 H A W P.the-row fullShare tt n xs b 0) $
       fsplit ! $ drop ! $ done !
 
-  pub together : (xs : List Place) (b : ℕ) → length xs ≡ 128
-      → ent 𝓤 (⋆ 𝓤 H A (‵ (row P.the-row fullShare xs b 0) ∷ [])) (sem 𝓤 H A (fat fullShare rowTy b 0 (rowVal xs)))
+  pub together : (xs : List Place) (b : ℕ) → length xs ≡ n
+      → ent 𝓤 (⋆ 𝓤 H A (‵ (row P.the-row fullShare xs b 0) ∷ []))
+      (⋆ 𝓤 H A (‵ (fat fullShare (rowTy n) b 0 (rowVal xs)) ∷ ‵ (Row n .own xs (rowVal xs ∷ [])) ∷ []))
   unfolding partOf
   together xs b len =
-      qed W (‵ (row P.the-row fullShare xs b 0) ∷ []) ∵ feqI ! ℕ (length xs) 128 len $ fjoin ! $
-      use1 W (‵ (partAt Row fullShare xs b 0)) (array-whole 𝓤 H A W P.the-row fullShare 128 xs b 0) $ fpick ! (λ vs. fsplit ! $
-      spelt ! Row (Is Row) (shows 𝓤 H A Row) rowVals row-tells fullShare xs vs b 0 $
-      use1 W (‵ (fat fullShare rowTy b 0 (rowVal xs))) (W .laws .raw-at fullShare rowTy b 0 (rowVal xs)) $ move ! (1 ∷ []) $ drop ! $
-      done !)
+      qed W (‵ (row P.the-row fullShare xs b 0) ∷ []) ∵ feqI ! ℕ (length xs) n len $ fjoin ! $
+      use1 W (‵ (partAt (Row n) fullShare xs b 0)) (array-whole 𝓤 H A W P.the-row fullShare n xs b 0) $ fpick ! (λ vs. fsplit ! $
+      spelt ! (Row n) (Is (Row n)) (shows 𝓤 H A (Row n)) rowVals (row-tells n) fullShare xs vs b 0 $
+      use1 W (‵ (fat fullShare (rowTy n) b 0 (rowVal xs))) (W .laws .raw-at fullShare (rowTy n) b 0 (rowVal xs)) $ done !)

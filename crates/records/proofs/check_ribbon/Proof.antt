@@ -196,7 +196,7 @@ module _ {M : Type 1} (𝓤 : URA M) (H : Heap 𝓤) (A : Atoms 𝓤) (W : Given
 
   abbrev Fill-owned : Findings → Fml
   Fill-owned r =
-      fsep (Row .own (r .records) (rowVal (r .records) ∷ [])) (fsep (usize .own (r .due) (vint w64 (r .due) ∷ [])) (fsep O₃ ftrue))
+      fsep (Row 128 .own (r .records) (rowVal (r .records) ∷ [])) (fsep (usize .own (r .due) (vint w64 (r .due) ∷ [])) (fsep O₃ ftrue))
 
   -- what it says, and that of the last list
   abbrev Ensured-fill : Findings → Unit {0} → SProp 𝓤
@@ -214,7 +214,7 @@ module _ {M : Type 1} (𝓤 : URA M) (H : Heap 𝓤) (A : Atoms 𝓤) (W : Given
     hands-fill =
         qed W (‵ (flft κ₃ q₃) ∷ ‵ O₃ ∷ []) ∵ nothing ! $ move ! (2 ∷ 0 ∷ []) $ fjoin ! $
         owned ! usize (Is usize) (uint-makes 𝓤 H A W w64) (r .due) _ (refl, due-fits r u is) $ fjoin ! $
-        owned ! Row (Is Row) (row-makes 𝓤 H A W) (r .records) _ (records-are r u is) $ fjoin ! $
+        owned ! (Row 128) (Is (Row 128)) (row-makes 𝓤 H A W 128) (r .records) _ (records-are r u is) $ fjoin ! $
         -- [what the callee's parameters own; the token]
         nothing ! $ move ! (2 ∷ 0 ∷ []) $ join ! $ use2 W (raw (Fill 𝓤 H A mem run .pre (to-fill r))) asked-fill $ done !
 

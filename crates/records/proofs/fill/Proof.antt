@@ -63,7 +63,7 @@ use Rattle.records.proofs.fill.Code as code
 use Rattle.records.proofs.fill.Code.Mir as mir′
 
 abbrev stayed : Stays (fill′.ended .signature .params) (fill′.ended .kept)
-stayed = (stay-none (λ _. Row) yes, (stay-none (λ _. usize) yes, (stay-slice (0 ∷ []) tt (plain (λ _. P.the-row)), tt)))
+stayed = (stay-none (λ _. Row 128) yes, (stay-none (λ _. usize) yes, (stay-slice (0 ∷ []) tt (plain (λ _. P.the-row)), tt)))
 
 -- ---- truth values and numbers
 holds : (t : Bool) → Holds t → t ≡ true
@@ -84,7 +84,7 @@ blank = record { code = 0; way = given 0 }
 
 module _ {M : Type 1} (𝓤 : URA M) (H : Heap 𝓤) (A : Atoms 𝓤) (W : Given 𝓤 H A) (mem : Memory → SProp 𝓤)
     (run : Routine → Fun 𝓤) (κ₀ : Lft) (q₀ : Share) (all : List Place) (n b o : ℕ) (γ : GName) (ys : List Place)
-    (is-row : Is Row all (rowVal all ∷ [])) (len : length all ≡ 128) (n-fits : n < 2 ^ 64) (few : n ≤ 128)
+    (is-row : Is (Row 128) all (rowVal all ∷ [])) (len : length all ≡ 128) (n-fits : n < 2 ^ 64) (few : n ≤ 128)
     (room : Room P.the-row (length ys)) (within : n ≤ length ys) where
   -- the borrow of the lent records at the list l
   abbrev x : List Place → RefT (List Place)
@@ -138,7 +138,7 @@ module _ {M : Type 1} (𝓤 : URA M) (H : Heap 𝓤) (A : Atoms 𝓤) (W : Given
       (ap (λ (m : ℕ). sliceVal (b, o) m ∷ []) all-laid, subst (Room P.the-row) all-laid room) $
       fjoin ! $
       nothing ! $ move ! (1 ∷ 0 ∷ []) $ fjoin ! $ owned ! usize (Is usize) (uint-makes 𝓤 H A W w64) n _ (refl, n-fits) $ fjoin ! $
-      owned ! Row (Is Row) (row-makes 𝓤 H A W) all _ is-row $ fjoin ! $
+      owned ! (Row 128) (Is (Row 128)) (row-makes 𝓤 H A W 128) all _ is-row $ fjoin ! $
       feqI ! (List Val) (vunit ∷ []) (vunit ∷ []) refl $ move ! (1 ∷ 0 ∷ []) $ done !
 
   -- ---- the loop
@@ -156,16 +156,16 @@ module _ {M : Type 1} (𝓤 : URA M) (H : Heap 𝓤) (A : Atoms 𝓤) (W : Given
     Λ = 𝓣 .Λ
 
     abbrev En : Env 𝓤 H
-    En = (tyUnit, l₀) ∷ (rowTy, l₁) ∷ (word, l₂) ∷ (lent, l₃) ∷ (rowTy, l₄) ∷ (word, l₅) ∷ (tyBool, l₆) ∷ (word, l₇) ∷ (tyPtr, l₈) ∷
+    En = (tyUnit, l₀) ∷ (rowTy 128, l₁) ∷ (word, l₂) ∷ (lent, l₃) ∷ (rowTy 128, l₄) ∷ (word, l₅) ∷ (tyBool, l₆) ∷ (word, l₇) ∷ (tyPtr, l₈) ∷
         (tyPtr, l₉) ∷ (P′.mir, l₁₀) ∷ (word, l₁₁) ∷ (tyPtr, l₁₂) ∷ []
 
     -- what no turn touches
     abbrev Frame : List (Item 𝓤)
-    Frame = ‵ (fat fullShare rowTy l₁ 0 (rowVal all)) ∷ ‵ (fat fullShare word l₂ 0 (vint w64 n)) ∷ ‵ (fat fullShare lent l₃ 0 s)
+    Frame = ‵ (fat fullShare (rowTy 128) l₁ 0 (rowVal all)) ∷ ‵ (fat fullShare word l₂ 0 (vint w64 n)) ∷ ‵ (fat fullShare lent l₃ 0 s)
         ∷ ‵ (froom tyUnit l₀ 0)
         ∷ ‵ (fobor κ₀ q₀ (Held P.the-row (length ys) b o γ)) ∷ ‵ (fobs γ (codedHoleys P.the-row .code (heres P.the-row ys)))
         ∷ ‵ (fauth γ (codedHoleys P.the-row .code (heres P.the-row ys)))
-        ∷ ‵ (fdies tyUnit l₀) ∷ ‵ (fdies rowTy l₁) ∷ ‵ (fdies word l₂) ∷ ‵ (fdies lent l₃) ∷ ‵ (fdies rowTy l₄) ∷ ‵ (fdies word l₅)
+        ∷ ‵ (fdies tyUnit l₀) ∷ ‵ (fdies (rowTy 128) l₁) ∷ ‵ (fdies word l₂) ∷ ‵ (fdies lent l₃) ∷ ‵ (fdies (rowTy 128) l₄) ∷ ‵ (fdies word l₅)
         ∷ ‵ (fdies tyBool l₆) ∷ ‵ (fdies word l₇) ∷ ‵ (fdies tyPtr l₈) ∷ ‵ (fdies tyPtr l₉) ∷ ‵ (fdies P′.mir l₁₀) ∷ ‵ (fdies word l₁₁)
         ∷ ‵ (fdies tyPtr l₁₂) ∷ []
 
@@ -260,7 +260,8 @@ module _ {M : Type 1} (𝓤 : URA M) (H : Heap 𝓤) (A : Atoms 𝓤) (W : Given
         assigns ! (of-opd ! (unit-lit !)) (from ! (stop !)) (init ! 13 refl (tt, tt)) $
         move ! (0 ∷ 14 ∷ 15 ∷ 16 ∷ []) $ closes-slice ! tt P.the-row ys (laid n) (long n (omega arith)) b o $
         -- [obs; the borrow; its token; _5; …; _12; the row; _1; _2; _3; _0; and that each local dies]
-        move ! (11 ∷ []) $ use1 W (‵ (fat fullShare rowTy l₄ 0 (rowVal all))) (together 𝓤 H A W all l₄ len) $
+        move ! (11 ∷ []) $ use1 W (‵ (fat fullShare (rowTy 128) l₄ 0 (rowVal all)) ⊛ ‵ (Row 128 .own all (rowVal all ∷ [])))
+        (together 𝓤 H A W 128 all l₄ len) $ split ! $ move ! (1 ∷ []) $ drop ! $
         -- [_4; obs; the borrow; its token; _5; …; _12; _1; _2; _3; _0; and that each local dies]
         returns ! (look ! 15 refl) $ forget ! 0 refl $ forget ! 4 refl $ forget ! 5 refl $ forget ! 12 refl $ forget ! 13 refl $
         forget ! 14 refl $ forget ! 15 refl $
@@ -295,11 +296,11 @@ module _ {M : Type 1} (𝓤 : URA M) (H : Heap 𝓤) (A : Atoms 𝓤) (W : Given
         (loop-rule 𝓤 H (W .laws) 𝓣 _<_ (Nat·lt-wfRel .wf) En mir′.turn-1 Left Inv turns n)
 
   -- the MIR up to the loop
-  walk : (𝓣 : Tables 𝓤 H) → Holds (hasTy rowTy (rowVal all)) × WT (rowVal all)
+  walk : (𝓣 : Tables 𝓤 H) → Holds (hasTy (rowTy 128) (rowVal all)) × WT (rowVal all)
       → ent 𝓤 (onEntry 𝓤 H A fill′.signature κs qs a vals)
       (WpFn 𝓤 H (𝓣 .C) (𝓣 .Λ) code.function (rowVal all ∷ vint w64 n ∷ s ∷ []) Post)
   walk 𝓣 wt =
-      qed W ((‵ (flft κ₀ q₀) ⊛ ‵ ftrue) ∷ ‵ (owns (Row ∷ usize ∷ MutSlice (named 0) κ₀ P.the-row ∷ []) a vals) ∷ []) ∵
+      qed W ((‵ (flft κ₀ q₀) ⊛ ‵ ftrue) ∷ ‵ (owns (Row 128 ∷ usize ∷ MutSlice (named 0) κ₀ P.the-row ∷ []) a vals) ∷ []) ∵
       enter ! (𝓣 .C) (𝓣 .Λ) code.function (rowVal all ∷ vint w64 n ∷ s ∷ []) _ $
       alloc1 ! (λ l₀. alloc1 ! (λ l₁. alloc1 ! (λ l₂. alloc1 ! (λ l₃. alloc1 ! (λ l₄. alloc1 ! (λ l₅.
       alloc1 ! (λ l₆. alloc1 ! (λ l₇. alloc1 ! (λ l₈. alloc1 ! (λ l₉. alloc1 ! (λ l₁₀. alloc1 ! (λ l₁₁. alloc1 ! (λ l₁₂. alloc0 ! $ params1 ! $
@@ -313,7 +314,7 @@ module _ {M : Type 1} (𝓤 : URA M) (H : Heap 𝓤) (A : Atoms 𝓤) (W : Given
       -- [obs; the borrow; true; _12; …; the token]
       move ! (29 ∷ []) $ split ! $ move ! (2 ∷ 3 ∷ 0 ∷ []) $ opens-slice ! tt P.the-row ys b o $
       -- [the lent records; the open borrow; obs; auth; true; true; _12; …]: the row is taken apart
-      move ! (22 ∷ []) $ use1 W (‵ (row P.the-row fullShare all l₄ 0)) (apart 𝓤 H A W all l₄ is-row) $
+      move ! (22 ∷ []) $ use1 W (‵ (row P.the-row fullShare all l₄ 0)) (apart 𝓤 H A W 128 all l₄ is-row) $
       -- [the row; the lent records; the open borrow; obs; auth; true; true; _12; …; _5; that it dies; that _4 dies; _3; …]
       keep ! (1 ∷ 21 ∷ 19 ∷ 17 ∷ 15 ∷ 13 ∷ 11 ∷ 9 ∷ 7 ∷ 0 ∷ 28 ∷ 26 ∷ 24 ∷ 30 ∷ 2 ∷ 3 ∷ 4
       ∷ 31 ∷ 29 ∷ 27 ∷ 25 ∷ 23 ∷ 22 ∷ 20 ∷ 18 ∷ 16 ∷ 14 ∷ 12 ∷ 10 ∷ 8 ∷ []) $
@@ -325,7 +326,7 @@ module _ {M : Type 1} (𝓤 : URA M) (H : Heap 𝓤) (A : Atoms 𝓤) (W : Given
   fill-walks : Walks 𝓤 H A fill′.ended stayed (WpFn 𝓤 H (𝓣 .C) (𝓣 .Λ) code.function) (fill′.clauses 𝓤 H A mem run)
   fill-walks = walked 𝓤 H A fill′.ended stayed (fill′.clauses 𝓤 H A mem run) (WpFn 𝓤 H (𝓣 .C) (𝓣 .Λ) code.function)
       (λ κs. (rowVals, (uint-vals w64, (slice-vals, tt))))
-      (λ κs. (row-tells, (uint-tells w64, (mut-slice-tells (named 0) (κs .0) P.the-row, tt))))
+      (λ κs. (row-tells 128, (uint-tells w64, (mut-slice-tells (named 0) (κs .0) P.the-row, tt))))
       (λ κs qs bounds a g are. needs 𝓤 ((a .1 .0 ≤ 128) × (a .1 .0 ≤ length (a .1 .1 .0 .now))) _ (λ pre.
       walk 𝓤 H A W mem run (κs .0) (qs .0) (a .0) (a .1 .0) (a .1 .1 .0 .ptr .0) (a .1 .1 .0 .ptr .1) (a .1 .1 .0 .name) (a .1 .1 .0 .now)
       (are .0) (are .0 .1 .0 .1) (are .1 .0 .1) (pre .0) (are .1 .1 .0 .0 .1) (pre .1)
@@ -333,7 +334,7 @@ module _ {M : Type 1} (𝓤 : URA M) (H : Heap 𝓤) (A : Atoms 𝓤) (W : Given
 
   gone : AllGo 𝓤 H A W 1 (fill′.ended .signature .params) (fill′.ended .kept) stayed
   gone = (
-    goes-none 𝓤 H A W 1 (λ _. Row) yes (λ κs x f. refl),
+    goes-none 𝓤 H A W 1 (λ _. Row 128) yes (λ κs x f. refl),
     (goes-none 𝓤 H A W 1 (λ _. usize) yes (λ κs x f. refl), (goes-slice 𝓤 H A W 1 0 tt (plain (λ _. P.the-row)), tt)),
   )
 

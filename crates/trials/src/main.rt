@@ -1,0 +1,5 @@
+// The trials.
+mod recorded;
+
+fn main() {
+}
