@@ -22,6 +22,6 @@ pub use check::{check_ribbon, Checked};
 pub use lay::{lay_ribbon, Laid};
 pub use orders::{read_orders, Read};
 pub use place::{Place, Way};
-pub use programs::{check_output, ribbon_output, sheet_output};
+pub use programs::{check_output, ribbon_of, ribbon_output, sheet_output};
 pub use refusal::Refusal;
 pub use sheet::{write_sheet, Sheet};

@@ -32,6 +32,12 @@ pub fn check_output(list_file: &[u8], ribbon_file: &[u8]) -> Vec<u8> {
     written(check_line(list_file, ribbon_file))
 }
 
+/// The part of a ribbon file that is the ribbon: one CR LF at its very end is
+/// not part of it.
+pub fn ribbon_of(file: &[u8]) -> &[u8] {
+    file.strip_suffix(b"\r\n").unwrap_or(file)
+}
+
 fn written(output: Result<Vec<u8>, Refusal>) -> Vec<u8> {
     let line = |refusal: Refusal| format!("refused,{},{}\r\n", refusal.number, refusal.row);
     output.unwrap_or_else(|refusal| line(refusal).into_bytes())
@@ -76,7 +82,7 @@ fn sheet_rows(file: &[u8]) -> Result<Vec<u8>, Refusal> {
 
 fn check_line(list_file: &[u8], ribbon_file: &[u8]) -> Result<Vec<u8>, Refusal> {
     let list = read(list_file)?;
-    let ribbon = ribbon_file.strip_suffix(b"\r\n").unwrap_or(ribbon_file);
+    let ribbon = ribbon_of(ribbon_file);
     let unset = Place {
         code: 0,
         way: Way::Given(0),

@@ -16,7 +16,7 @@ pub struct Recorded {
 }
 
 // Checks a ribbon into the first records of a row, so many. Proved by a walk of its MIR.
-fn check_front(
+pub fn check_front(
     bands: &[u8],
     lengths: &[u16],
     ribbon: &[u8],

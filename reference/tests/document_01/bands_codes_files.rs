@@ -1,6 +1,7 @@
 //! Document 01, "Bands, codes, files": what is read from right files.
 
 use crate::common::*;
+use reference::ribbon_of;
 
 /// Names and codes.
 type Orders = &'static [(&'static str, &'static str)];
@@ -159,4 +160,21 @@ fn every_band_in_a_code() {
     let alphabet = "ABCDEFGHIJKLMNOPQRSTUVWXYZ";
     let list = read(&file(&[&format!("a,{alphabet}")]));
     assert_eq!(list.bands, alphabet.as_bytes());
+}
+
+#[test]
+fn one_cr_lf_at_the_very_end_is_no_part_of_a_ribbon() {
+    for (file, ribbon) in [
+        ("AB\r\n", "AB"),
+        ("AB", "AB"),
+        ("\r\n", ""),
+        ("", ""),
+        ("AB\r\n\r\n", "AB\r\n"),
+        ("\r\nAB", "\r\nAB"),
+        ("AB\n", "AB\n"),
+        ("AB\r", "AB\r"),
+        ("AB\n\r", "AB\n\r"),
+    ] {
+        assert_eq!(ribbon_of(file.as_bytes()), ribbon.as_bytes(), "{file:?}");
+    }
 }

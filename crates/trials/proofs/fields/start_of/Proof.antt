@@ -1,0 +1,46 @@
+-- `start_of` is safe and ends: each turn leaves fewer fields.
+use native.Mathlib.Omega.{arith}
+use Prim.Native.Nat.{_-_}
+use Rattle.trials.proofs.fields.start_of.Statement.{statement}
+use Rattle.trials.proofs.fields.start_of.Tie as tie
+
+abbrev Inv-loop : tie.InvT-loop
+Inv-loop line k from₀ i₀ from i = Unit {0}
+
+abbrev μ-loop : tie.MeasureT-loop
+μ-loop line k from₀ i₀ from i = k - i
+
+loop-holds : tie.Need-loop-holds Inv-loop μ-loop
+loop-holds c = tt
+
+find-requires : tie.Need-find-requires Inv-loop μ-loop
+find-requires c κs = tt
+
+plus-requires : tie.Need-plus-requires Inv-loop μ-loop
+plus-requires c κs = tt
+
+add-i : tie.Need-add-i Inv-loop μ-loop
+add-i c = omega arith
+
+loop-less : tie.Need-loop-less Inv-loop μ-loop
+loop-less c = omega arith
+
+loop-again : tie.Need-loop-again Inv-loop μ-loop
+loop-again c = tt
+
+returns : tie.Need-returns Inv-loop μ-loop
+returns c = tt
+
+pub start-of-spec : {M : Type 1} → statement M
+start-of-spec =
+    tie.close
+    (tie.spec
+    Inv-loop
+    μ-loop
+    loop-holds
+    find-requires
+    plus-requires
+    add-i
+    loop-less
+    loop-again
+    returns)

@@ -1,0 +1,144 @@
+// The file of cases, line by line: its groups, the checksums over their cases, and what is printed of them.
+use crate::fields::field;
+use crate::fields::number_in;
+use crate::lines::file_line;
+use crate::lines::list_line;
+use crate::lines::pair_line;
+use crate::making::make_case;
+use crate::tally::Tally;
+use crate::tally::feed;
+use crate::total::find;
+use crate::total::look;
+use crate::total::part;
+use crate::total::plus;
+use libc::STDOUT_FILENO;
+use std::num::wrapping_add_u64;
+
+// Which texts are printed, `a` for all, `f` for the first of each group; whether the next one is; the title's part of the
+// file, at 0 before the first group; the group's cases and their checksum; all cases, and the checksum over the groups'.
+struct Run {
+    mode: u8,
+    loud: bool,
+    from: usize,
+    to: usize,
+    cases: u64,
+    sum: u64,
+    all: u64,
+    sums: u64,
+}
+
+// A line of a title, a count and a checksum.
+fn show_line(title: &[u8], count: u64, sum: u64) {
+    io::write_all(STDOUT_FILENO, title);
+    io::write_all(STDOUT_FILENO, b",");
+    io::print_decimal(STDOUT_FILENO, count);
+    io::write_all(STDOUT_FILENO, b",");
+    io::print_decimal(STDOUT_FILENO, sum);
+    io::write_all(STDOUT_FILENO, b"\n");
+}
+
+// The group ends, if there is one; the answer is the checksum over the groups'.
+fn end_group(r: Run, file: &[u8]) -> u64 {
+    if r.from == 0 {
+        return 0;
+    }
+    show_line(part(file, r.from, r.to), r.cases, r.sum);
+    let t = feed(
+        Tally {
+            sum: r.sums,
+            loud: false,
+        },
+        r.sum,
+    );
+    t.sum
+}
+
+// A group begins with a line; that is printed where texts are.
+fn begin_group(r: Run, file: &[u8], from: usize, to: usize) -> Run {
+    let sums = end_group(r, file);
+    let loud = r.mode != 0;
+    if loud {
+        io::write_all(STDOUT_FILENO, part(file, from, to));
+        io::write_all(STDOUT_FILENO, b"\n");
+    }
+    Run {
+        mode: r.mode,
+        loud,
+        from: plus(from, 2),
+        to,
+        cases: 0,
+        sum: 0,
+        all: r.all,
+        sums,
+    }
+}
+
+// What the group's next case goes on with.
+fn tally_of(r: Run) -> Tally {
+    Tally {
+        sum: r.sum,
+        loud: r.loud,
+    }
+}
+
+// One case more.
+fn counted(r: Run, t: Tally) -> Run {
+    let mut s = r;
+    s.sum = t.sum;
+    s.loud = r.mode == b'a';
+    s.cases = wrapping_add_u64(r.cases, 1);
+    s.all = wrapping_add_u64(r.all, 1);
+    s
+}
+
+// So many generated cases of a family.
+fn make_cases(r: Run, letter: u8, count: usize, seed: usize) -> Run {
+    let mut x = seed;
+    let mut s = r;
+    for i in 0..count {
+        let made = make_case(tally_of(s), s.cases, letter, i, x);
+        x = made.x;
+        s = counted(s, made.tally);
+    }
+    s
+}
+
+// The cases of a line `make FAMILY COUNT SEED`.
+fn make_line(r: Run, line: &[u8]) -> Run {
+    let letter = look(field(line, 1), 0);
+    make_cases(r, letter, number_in(line, 2), number_in(line, 3))
+}
+
+// The line between two indices of the file.
+fn run_line(r: Run, file: &[u8], from: usize, to: usize) -> Run {
+    let line = part(file, from, to);
+    match look(line, 0) {
+        b'=' => begin_group(r, file, from, to),
+        b'f' => counted(r, file_line(tally_of(r), r.cases, line)),
+        b'l' => counted(r, list_line(tally_of(r), r.cases, line)),
+        b'p' => counted(r, pair_line(tally_of(r), r.cases, line)),
+        b'm' => make_line(r, line),
+        _ => r,
+    }
+}
+
+// The whole file. There are no more lines than bytes, and past the end they are empty.
+pub fn run_lines(file: &[u8], mode: u8) {
+    let mut r = Run {
+        mode,
+        loud: false,
+        from: 0,
+        to: 0,
+        cases: 0,
+        sum: 0,
+        all: 0,
+        sums: 0,
+    };
+    let mut at = 0;
+    for i in 0..file.len() {
+        let to = find(file, at, b'\n');
+        r = run_line(r, file, at, to);
+        at = plus(to, 1);
+    }
+    show_line(b"all", r.all, end_group(r, file));
+}

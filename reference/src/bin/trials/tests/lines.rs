@@ -1,0 +1,81 @@
+//! The lines of a file of cases.
+
+use crate::cases::{groups, work, Group};
+
+#[test]
+fn lines_that_are_wrong_are_told_by_their_numbers() {
+    for line in [
+        "File - 4x1",
+        "files - 4x1",
+        "file",
+        "file - ",
+        "file -",
+        "file - 3x1",
+        "file  4x1",
+        "file - 4x1 ",
+        "file - 4x1 lay,ribbon",
+        "file - 4x1 :",
+        "file - 4x1 :x",
+        "file - 4x1: x",
+        " file - 4x1",
+        "list - - - - - 4x1",
+        "list - - - - 3x1",
+        "list - - - - - - 3x1",
+        "list - \\41 - - - 3x1",
+        "pair -",
+        "pair - \\4",
+        "pair - -\r",
+        "pair - \u{e9}",
+        "pair - \t",
+        "make ties 1",
+        "make tie 1 1",
+        "make Ties 1 1",
+        "make ties one 1",
+        "make ties 1 4294967296",
+        "make ties 1 1 : lay,ribbon",
+        "=",
+        "=b",
+        "= ",
+        "= a, b",
+        "-",
+    ] {
+        let file = format!("# a\n= a\npair - -\n\n{line}\npair - -\n");
+        let fault = groups(file.as_bytes()).err().expect(line);
+        assert!(fault.starts_with("line 5: "), "{line}: {fault}");
+    }
+    let early = groups(b"\npair - -\n= a\n").err().unwrap();
+    assert!(early.starts_with("line 2: "), "{early}");
+}
+
+#[test]
+fn lines_that_are_right() {
+    let file = "# a\n\n= a\npair : : : check,held\nmake full 0 0\n= b: c = d\nfile - 4x1";
+    let groups = groups(file.as_bytes()).ok().unwrap();
+    let counts: Vec<(&str, usize)> = groups
+        .iter()
+        .map(|group: &Group| (&group.title[..], group.work.len()))
+        .collect();
+    assert_eq!(counts, [("a", 2), ("b: c = d", 1)]);
+    let (_, remark) = work("pair : : : check,held; b : c").ok().unwrap();
+    assert_eq!(remark, Some("check,held; b : c"));
+}
+
+#[test]
+fn a_file_of_65536_bytes_and_one_of_65537() {
+    let line = format!("#{}\n", "a".repeat(16_382));
+    let lacking = line.repeat(4);
+    assert_eq!(lacking.len(), 65_536);
+    let right = [&lacking[..], &format!("{}b", &lacking[..65_535])];
+    for file in right {
+        assert!(groups(file.as_bytes()).is_ok());
+    }
+    for (file, line) in [
+        (format!("{lacking}\n"), 5),
+        (format!("{lacking}b"), 5),
+        (format!("{}bb", &lacking[..65_535]), 4),
+        (format!("{}b\n", &lacking[..65_535]), 4),
+    ] {
+        let fault = groups(file.as_bytes()).err().unwrap();
+        assert!(fault.starts_with(&format!("line {line}: ")), "{fault}");
+    }
+}
