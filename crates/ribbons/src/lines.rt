@@ -15,9 +15,9 @@ pub fn refused_line(r: lists::Refusal, row: &mut [u8]) -> usize
 {
     let number = r.number as u32;
     let mut at = words::put_word(b"refused,", row, 0);
-    at = sheets::put_decimal(number, row, at);
+    at = fields::put_decimal(number, row, at);
     at = words::put_word(b",", row, at);
-    at = sheets::put_decimal(r.row, row, at);
+    at = fields::put_decimal(r.row, row, at);
     words::put_word(b"\r\n", row, at)
 }
 
@@ -39,10 +39,10 @@ fn put_signed(d: i32, row: &mut [u8], at: usize) -> usize
 {
     let size = size_of(d);
     if 0 <= d {
-        return sheets::put_decimal(size, row, at);
+        return fields::put_decimal(size, row, at);
     }
     let from = words::put_word(b"-", row, at);
-    sheets::put_decimal(size, row, from)
+    fields::put_decimal(size, row, from)
 }
 
 // The line of a ribbon that holds every code, with how much longer than the computed one it is.
@@ -61,6 +61,6 @@ pub fn missing_line(k: u32, row: &mut [u8]) -> usize
     ensures { λ n. ⌜ (n ≡ length (missingLine k)) × (now (row .exit) ≡ over (missingLine k) (now (row .entry))) ⌝ }
 {
     let mut at = words::put_word(b"missing,", row, 0);
-    at = sheets::put_decimal(k, row, at);
+    at = fields::put_decimal(k, row, at);
     words::put_word(b"\r\n", row, at)
 }

@@ -1,16 +1,14 @@
--- Decimal numbers: ours meets the claim, it leaves no freedom, what is written tells the number, and it is written digit by
--- digit. The fuel does not matter as long as it is more than the number, since a number of two digits or more is larger than
+-- Decimal numbers: ours meets the claim, it leaves no freedom, what is written tells the number, and how many digits there
+-- are. The fuel does not matter as long as it is more than the number, since a number of two digits or more is larger than
 -- its tenth.
-use mathlib.Core.Path.{_≡_, refl, sym, ap, subst, subst⁻¹, _∙_}
+use mathlib.Core.Path.{_≡_, refl, sym, subst, _∙_}
 use mathlib.Core.Bool.{false}
 use mathlib.Core.List.{List, [], _∷_, _++_}
 use Prim.Native.Nat.{ℕ, zero, suc, _+_, _*_, _^_, _-_, _/_, _%_, _≤_, _<_}
 use native.Mathlib.Nat.{pow-suc}
 use native.Mathlib.Omega.{arith}
 use lib.Dec.{ltb}
-use lib.ListN.{length, set, length-append}
-use Rattle.words.specs.Written.{Written}
-use Rattle.words.proofs.Written.{one-written, both-written}
+use lib.ListN.{length, length-append}
 use Rattle.words.proofs.Deciding.{passes, refuses, by-cases, is-lt}
 use Rattle.sheets.specs.Decimal.{Digits, one-digit, one-more, digit, digitsFrom, decimal}
 
@@ -81,20 +79,3 @@ digits-few (one-more {v} {d} {t} p e l) (suc k) h =
 
 pub decimal-few : (v : ℕ) → v < 4294967296 → length (decimal v) ≤ 10
 decimal-few v h = digits-few (digits-ours v) 9 (omega arith)
-
--- Written so: a single digit by one store, the last of several by one store behind those of the tenth.
-pub one-digit-long : {v : ℕ} → v < 10 → length (decimal v) ≡ 1
-one-digit-long l = ap length (decimal-one l)
-
-pub one-digit-longer : {v : ℕ} → 10 ≤ v → length (decimal v) ≡ length (decimal (v / 10)) + 1
-one-digit-longer {v} h = ap length (decimal-more h) ∙ length-append (decimal (v / 10)) (digit v ∷ [])
-
-pub digit-written : {row : List ℕ} {at v : ℕ} → v < 10 → at < length row → Written row at (decimal v) (set row at (48 + v)) (at + 1)
-digit-written {row} {at} {v} l h =
-    subst⁻¹ (λ (s : List ℕ). Written row at s (set row at (48 + v)) (at + 1)) (decimal-one l) (one-written (48 + v) h)
-
-pub last-written : {row : List ℕ} {at v : ℕ} {mid : List ℕ} {k : ℕ} → 10 ≤ v → at ≤ length row → Written row at (decimal (v / 10)) mid k
-    → k < length mid → Written row at (decimal v) (set mid k (digit v)) (k + 1)
-last-written {row} {at} {v} {mid} {k} h l w i =
-    subst⁻¹ (λ (s : List ℕ). Written row at s (set mid k (digit v)) (k + 1)) (decimal-more h)
-    (both-written l w (one-written (digit v) i))

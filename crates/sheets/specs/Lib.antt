@@ -2,5 +2,4 @@
 pub mod Decimal
 pub mod Sheet
 pub mod Answers
-pub mod Placed
 pub mod ReadBack

@@ -8,6 +8,7 @@ pub mod Overlaps
 pub mod Placing
 pub mod Ways
 pub mod Written
+pub mod Partly
 pub mod Comparing
 pub mod Trying
 pub mod Seeking

@@ -1,13 +1,31 @@
 -- Words written one behind the other are written as one word; a single band is written by one store, and a word by a
 -- copy band by band.
-use mathlib.Core.Path.{_≡_, refl, sym, ap, _∙_}
+use mathlib.Core.Path.{_≡_, refl, sym, ap, subst⁻¹, _∙_}
 use mathlib.Core.List.{List, [], _∷_, _++_, append-assoc}
 use Prim.Native.Nat.{ℕ, _+_, _≤_, _<_}
 use native.Mathlib.Numerals.{add-one}
 use native.Mathlib.Omega.{arith}
-use lib.ListN.{length, take, drop, set, getD, length-append}
+use lib.ListN.{length, take, drop, set, getD, length-append, length-drop}
 use lib.Seq.{paste, paste-suc, length-take-le, take-at, take-length, drop-append-add, drop-drop, set-split}
 use Rattle.words.specs.Written.{Written}
+
+-- writing within a row keeps its length
+pub written-length : {row : List ℕ} {at : ℕ} {s after : List ℕ} {end : ℕ} → at + length s ≤ length row
+    → Written row at s after end → length after ≡ length row
+written-length {row} {at} {s} {after} h w =
+    let e : length after ≡ length (take at row ++ (s ++ drop (at + length s) row)) = rw (w .after-is) in
+    omega (
+      arith,
+      length-append (take at row) (s ++ drop (at + length s) row),
+      length-append s (drop (at + length s) row),
+      length-take-le at row (omega arith),
+      length-drop (at + length s) row,
+    )
+
+-- another name for what is written
+pub written-as : {row : List ℕ} {at : ℕ} {s t after : List ℕ} {end : ℕ} → t ≡ s → Written row at s after end
+    → Written row at t after end
+written-as {row} {at} {after = after} {end = end} e w = subst⁻¹ (λ (s : List ℕ). Written row at s after end) e w
 
 -- A copy, band by band.
 module _ (row : List ℕ) (at : ℕ) (s : List ℕ) {now : List ℕ} {j : ℕ} (so-far : now ≡ paste row at s j) where

@@ -7,9 +7,8 @@ use native.Mathlib.Omega.{arith}
 use lib.ListN.{length, take-append-drop}
 use denote.Ref.{now, at-last}
 use Rattle.words.specs.Written.{Written}
-use Rattle.words.proofs.Written.{both-written}
+use Rattle.words.proofs.Written.{written-length, both-written}
 use Rattle.lists.proofs.Runs.{written-over}
-use Rattle.sheets.proofs.Writing.{written-length}
 use Rattle.writer.specs.declared.page.Writer.{Writer}
 use Rattle.writer.specs.Calls.{PutsSheet}
 use Rattle.writer.specs.Filled.{putAt, filled}

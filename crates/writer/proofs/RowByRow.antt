@@ -10,7 +10,7 @@ use Rattle.lists.specs.Runs.{codesIn}
 use Rattle.lists.proofs.Runs.{codes-count}
 use Rattle.places.specs.declared.Place.{Place}
 use Rattle.places.specs.declared.Way.the-variants.{Given}
-use Rattle.sheets.specs.Placed.{RowsThere, nthRow, placedRows}
+use Rattle.sheet_rows.specs.Placed.{RowsThere, nthRow, placedRows}
 
 no-rows : (names : List (List ℕ)) (ps : List Place) (ribbon : List ℕ) → placedRows names [] ps ribbon ≡ []
 no-rows [] ps ribbon = refl

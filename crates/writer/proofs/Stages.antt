@@ -27,9 +27,9 @@ use Rattle.greedy.proofs.Room.{ribbon-at-most}
 use Rattle.places.specs.Calls.{FindsPlaces}
 use Rattle.places.specs.declared.Place as declared
 use Rattle.places.proofs.Check.{stands-at}
-use Rattle.sheets.specs.Placed.{RowsThere, placedSheet}
+use Rattle.sheet_rows.specs.Placed.{RowsThere, placedSheet}
 use Rattle.sheets.specs.Answers.{SheetAnswer, SheetOutcome, refused, written, SheetsInto, sheetFor, sheetOutcome}
-use Rattle.sheets.proofs.Placed.{placed-is-sheet, rows-there}
+use Rattle.sheet_rows.proofs.Placed.{placed-is-sheet, rows-there}
 use Rattle.sheets.proofs.Room.{sheet-at-most}
 use Rattle.sheets.proofs.Answers.{if-tests, sheets-ours}
 use Rattle.writer.specs.Calls.{answerOf, WritesSheet, PutsSheet, Ready, laidOutcome, Gives}

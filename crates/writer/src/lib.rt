@@ -11,7 +11,7 @@ use layout::lay_ribbon;
 use lists::Refusal;
 pub use page::put_sheet;
 use places::find_places;
-use sheets::sheet_size;
+use sheet_rows::sheet_size;
 
 // The sheet's length and what its ribbon saves; or the refusal, 12, 14 or 13.
 pub enum Wrote {

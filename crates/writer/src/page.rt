@@ -6,12 +6,12 @@ ghost use lib.ListN.{length};
 ghost use Rattle.words.specs.Written.{Written};
 ghost use Rattle.lists.specs.Runs.{codesIn};
 ghost use Rattle.sheets.specs.Sheet.{rowText, sheetHeading};
-ghost use Rattle.sheets.specs.Placed.{RowsThere, nthRow, placedRows, placedSheet};
+ghost use Rattle.sheet_rows.specs.Placed.{RowsThere, nthRow, placedRows, placedSheet};
 ghost use Rattle.writer.specs.Calls.{PutsSheet};
 ghost use Rattle.writer.specs.Filled.{filled};
 use places::Place;
-use sheets::put_heading;
-use sheets::put_nth;
+use sheet_rows::put_heading;
+use sheet_rows::put_nth;
 
 // A writer: the lent slice, and its fill mark, the place of the next row.
 pub struct Writer<'a> {

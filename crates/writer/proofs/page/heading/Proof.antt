@@ -49,10 +49,10 @@ use Rattle.writer.proofs.page.Writer as T
 use Rattle.writer.proofs.page.Writer.Laws as T′
 use Rattle.writer.proofs.Held.{writer-spent, writer-spent-goes}
 use Rattle.writer.proofs.Again.{LentAgain, lends-again, comes-back}
-use Rattle.sheets.proofs.put_heading as put-heading
-use Rattle.sheets.proofs.put_heading.Symbol as put-heading-def
-use Rattle.sheets.proofs.put_heading.Symbol.{name as #sheets·put-heading}
-use Rattle.sheets.proofs.put_heading.Met as put-heading-thm
+use Rattle.sheet_rows.proofs.put_heading as put-heading
+use Rattle.sheet_rows.proofs.put_heading.Symbol as put-heading-def
+use Rattle.sheet_rows.proofs.put_heading.Symbol.{name as #sheet-rows·put-heading}
+use Rattle.sheet_rows.proofs.put_heading.Met as put-heading-thm
 use Rattle.writer.proofs.page.heading.Key.{name as #writer·page·heading}
 use Rattle.writer.proofs.page.heading as heading
 use Rattle.writer.proofs.page.heading.Statement as stated
@@ -125,7 +125,7 @@ module _ {M : Type 1} (𝓤 : URA M) (H : Heap 𝓤) (A : Atoms 𝓤) (W : Given
       use1 W (‵ (inStruct (MutSlice (named 0) κ u8 ∷ usize ∷ []) (mach n ∷ []) had)) (makes 𝓤 H A W (MutSlice (named 0) κ u8 ∷ usize ∷ []) had (s ∷ [], (vint w64 n ∷ [], tt))) $
       nothing ! $ move ! (1 ∷ 0 ∷ []) $ fjoin ! $ done !
 
-  module _ (C : Calls 𝓤 H) (Λ : Loops 𝓤 H) (fm : FmC 𝓤 H (W .laws) C) (known : Triple 𝓤 (C #sheets·put-heading) (PutHeading 𝓤 H A mem run)) where
+  module _ (C : Calls 𝓤 H) (Λ : Loops 𝓤 H) (fm : FmC 𝓤 H (W .laws) C) (known : Triple 𝓤 (C #sheet-rows·put-heading) (PutHeading 𝓤 H A mem run)) where
     walk : Is (T.the-row α) h (mach n ∷ []) → Room u8 (length ys) → Asked → ent 𝓤 (onEntry 𝓤 H A heading.signature (κ, tt) (q, tt) a vals) (WpFn 𝓤 H C Λ code.function (mach n ∷ []) Post)
     walk g room asked =
         qed W ((‵ (flft κ q) ⊛ ‵ ftrue) ∷ ‵ (owns (T.the-row α ∷ []) a vals) ∷ []) ∵ enter ! C Λ code.function (mach n ∷ []) _ $
@@ -160,14 +160,14 @@ module _ {M : Type 1} (𝓤 : URA M) (H : Heap 𝓤) (A : Atoms 𝓤) (W : Given
         keep ! (1 ∷ 0 ∷ []) $ by ! (exits r (zs .0) e (is .1)))))))))))))))))))
 
 module _ {M : Type 1} (𝓤 : URA M) (H : Heap 𝓤) (A : Atoms 𝓤) (W : Given 𝓤 H A) (mem : Memory → SProp 𝓤) (run : Routine → Fun 𝓤) where
-  heading-walks : (C : Calls 𝓤 H) (Λ : Loops 𝓤 H) → FmC 𝓤 H (W .laws) C → Triple 𝓤 (C #sheets·put-heading) (PutHeading 𝓤 H A mem run) → Walks 𝓤 H A heading.ended stayed (WpFn 𝓤 H C Λ code.function) (heading.clauses 𝓤 H A mem run)
+  heading-walks : (C : Calls 𝓤 H) (Λ : Loops 𝓤 H) → FmC 𝓤 H (W .laws) C → Triple 𝓤 (C #sheet-rows·put-heading) (PutHeading 𝓤 H A mem run) → Walks 𝓤 H A heading.ended stayed (WpFn 𝓤 H C Λ code.function) (heading.clauses 𝓤 H A mem run)
   heading-walks C Λ fm known = walked 𝓤 H A heading.ended stayed (heading.clauses 𝓤 H A mem run) (WpFn 𝓤 H C Λ code.function)
       (λ κs. (LL.vals (T.the-type (namedLft 1 0 tt κs)) (T′.the-laws (namedLft 1 0 tt κs)), tt)) (λ κs. (LL.tells (T.the-type (namedLft 1 0 tt κs)) (T′.the-laws (namedLft 1 0 tt κs)), tt))
       (λ κs qs bounds a g are. needs 𝓤 (a .0 .mark + 22 ≤ length (a .0 .out .now)) _ (λ within.
       let fields = LL.owed (T.the-type (namedLft 1 0 tt κs)) (T′.the-laws (namedLft 1 0 tt κs)) (a .0) _ (are .0) in
       walk 𝓤 H A W mem run (κs .0) (qs .0) (a .0 .out .ptr .0) (a .0 .out .ptr .1) (a .0 .out .name) (a .0 .out .now) (a .0 .mark) (fields .1 .0 .1) C Λ fm known (are .0) (fields .0 .0 .1) within))
 
-heading-meets : {M : Type 1} (𝓤 : URA M) (H : Heap 𝓤) (A : Atoms 𝓤) → Given 𝓤 H A → (mem : Memory → SProp 𝓤) (run : Routine → Fun 𝓤) (𝓣 : Tables 𝓤 H) → Triple 𝓤 (𝓣 .C #sheets·put-heading) (PutHeading 𝓤 H A mem run)
+heading-meets : {M : Type 1} (𝓤 : URA M) (H : Heap 𝓤) (A : Atoms 𝓤) → Given 𝓤 H A → (mem : Memory → SProp 𝓤) (run : Routine → Fun 𝓤) (𝓣 : Tables 𝓤 H) → Triple 𝓤 (𝓣 .C #sheet-rows·put-heading) (PutHeading 𝓤 H A mem run)
     → Meets 𝓤 H A heading.signature (WpFn 𝓤 H (𝓣 .C) (𝓣 .Λ) code.function) (heading.spec 𝓤 H A mem run)
 heading-meets 𝓤 H A W mem run 𝓣 known =
     walk-meets 𝓤 H A heading.ended stayed W (writer-spent-goes 0 𝓤 H A W, tt) (heading.clauses 𝓤 H A mem run)
@@ -179,4 +179,4 @@ heading-spec 𝓤 H 𝓜 𝓖 𝓡 =
     entered 𝓤 H (tripleOf 𝓤 H (𝓖 .A) heading.signature (heading.spec 𝓤 H (𝓖 .A) (𝓜 .mem) (𝓡 .run)))
     (tables 𝓤 H 𝓜 𝓡 code.env .C) (tables 𝓤 H 𝓜 𝓡 code.env .Λ) #writer·page·heading code.function (code.unfolded 𝓤 H 𝓜 𝓡)
     (heading-meets 𝓤 H (𝓖 .A) (givenOf 𝓤 H 𝓜 𝓖) (𝓜 .mem) (𝓡 .run) (tablesOf 𝓤 H 𝓜 (tables 𝓤 H 𝓜 𝓡 code.env))
-    (cited 𝓤 H (PutHeading 𝓤 H (𝓖 .A) (𝓜 .mem) (𝓡 .run)) 𝓜 𝓡 code.env #sheets·put-heading put-heading-def.routine code.calls-sheets·put-heading (put-heading-thm.met 𝓤 H 𝓜 𝓖 𝓡)))
+    (cited 𝓤 H (PutHeading 𝓤 H (𝓖 .A) (𝓜 .mem) (𝓡 .run)) 𝓜 𝓡 code.env #sheet-rows·put-heading put-heading-def.routine code.calls-sheet-rows·put-heading (put-heading-thm.met 𝓤 H 𝓜 𝓖 𝓡)))

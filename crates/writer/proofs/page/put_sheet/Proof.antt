@@ -48,7 +48,7 @@ use Rattle.places.specs.declared.Place.{Place}
 use Rattle.places.proofs.Place as P
 use Rattle.places.proofs.Place.Laws as P′
 use Rattle.sheets.specs.Sheet.{rowText, sheetHeading}
-use Rattle.sheets.specs.Placed.{RowsThere, placedRows, placedSheet}
+use Rattle.sheet_rows.specs.Placed.{RowsThere, placedRows, placedSheet}
 use Rattle.writer.specs.declared.page.Writer.{Writer}
 use Rattle.writer.specs.Filled.{filled, putAt}
 use Rattle.writer.proofs.page.Writer as T

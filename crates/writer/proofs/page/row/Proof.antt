@@ -48,17 +48,17 @@ use Rattle.words.specs.Written.{Written}
 use Rattle.places.specs.declared.Place.{Place}
 use Rattle.places.proofs.Place as P
 use Rattle.places.proofs.Place.Laws as P′
-use Rattle.sheets.specs.Placed.{RowsThere, nthRow}
+use Rattle.sheet_rows.specs.Placed.{RowsThere, nthRow}
 use Rattle.writer.specs.declared.page.Writer.{Writer}
 use Rattle.writer.proofs.page.Writer as T
 use Rattle.writer.proofs.page.Writer.Laws as T′
 use Rattle.writer.proofs.Held.{writer-spent, writer-spent-goes}
 use Rattle.writer.proofs.Passed.{Records, records-vals, records-val, slice-val, Slices, Five, five-apart, five-made, Four, Ending, token-put, token-taken}
 use Rattle.writer.proofs.Again.{LentAgain, lends-again, comes-back}
-use Rattle.sheets.proofs.put_nth as put-nth
-use Rattle.sheets.proofs.put_nth.Symbol as put-nth-def
-use Rattle.sheets.proofs.put_nth.Symbol.{name as #sheets·put-nth}
-use Rattle.sheets.proofs.put_nth.Met as put-nth-thm
+use Rattle.sheet_rows.proofs.put_nth as put-nth
+use Rattle.sheet_rows.proofs.put_nth.Symbol as put-nth-def
+use Rattle.sheet_rows.proofs.put_nth.Symbol.{name as #sheet-rows·put-nth}
+use Rattle.sheet_rows.proofs.put_nth.Met as put-nth-thm
 use Rattle.writer.proofs.page.row.Key.{name as #writer·page·row}
 use Rattle.writer.proofs.page.row as row
 use Rattle.writer.proofs.page.row.Statement as stated
@@ -191,7 +191,7 @@ module _ {M : Type 1} (𝓤 : URA M) (H : Heap 𝓤) (A : Atoms 𝓤) (W : Given
       nothing ! $ owned ! usize (Is usize) (uint-makes 𝓤 H A W w64) i _ (refl, i-fits) $ fjoin ! $ move ! (0 ∷ 3 ∷ []) $
       use2 W (‵ (With (fsep (Number i) ftrue)) ⊛ ‵ Shared) (five-made κ₀ κ₁ κ₂ κ₃ x₀ x₁ x₂ xs x₃ 𝓤 H A W (fsep (Number i) ftrue) xs-is) $ split ! $ move ! (1 ∷ []) $ drop ! $ move ! (1 ∷ 0 ∷ []) $ fjoin ! $ done !
 
-  module _ (C : Calls 𝓤 H) (Λ : Loops 𝓤 H) (fm : FmC 𝓤 H (W .laws) C) (known : Triple 𝓤 (C #sheets·put-nth) (PutNth 𝓤 H A mem run)) where
+  module _ (C : Calls 𝓤 H) (Λ : Loops 𝓤 H) (fm : FmC 𝓤 H (W .laws) C) (known : Triple 𝓤 (C #sheet-rows·put-nth) (PutNth 𝓤 H A mem run)) where
     walk : Is (T.the-row α) h (mach n ∷ []) → Room u8 (length ys) → Room u8 (length (now x₀)) → Room u16 (length (now x₁)) → Room u16 (length (now x₂)) → Room u8 (length (now x₃))
         → ent 𝓤 (onEntry 𝓤 H A row.signature κs qs a vals) (WpFn 𝓤 H C Λ code.function (mach n ∷ slice-val x₀ ∷ slice-val x₁ ∷ slice-val x₂ ∷ records-val xs ∷ slice-val x₃ ∷ vint w64 i ∷ []) Post)
     walk g room room₀ room₁ room₂ room₃ =
@@ -239,7 +239,7 @@ module _ {M : Type 1} (𝓤 : URA M) (H : Heap 𝓤) (A : Atoms 𝓤) (W : Given
         keep ! (1 ∷ 2 ∷ 0 ∷ 5 ∷ []) $ by ! (exits r (last zs) e (is .1)))))))))))))))))))))))))
 
 module _ {M : Type 1} (𝓤 : URA M) (H : Heap 𝓤) (A : Atoms 𝓤) (W : Given 𝓤 H A) (mem : Memory → SProp 𝓤) (run : Routine → Fun 𝓤) where
-  row-walks : (C : Calls 𝓤 H) (Λ : Loops 𝓤 H) → FmC 𝓤 H (W .laws) C → Triple 𝓤 (C #sheets·put-nth) (PutNth 𝓤 H A mem run) → Walks 𝓤 H A row.ended stayed (WpFn 𝓤 H C Λ code.function) (row.clauses 𝓤 H A mem run)
+  row-walks : (C : Calls 𝓤 H) (Λ : Loops 𝓤 H) → FmC 𝓤 H (W .laws) C → Triple 𝓤 (C #sheet-rows·put-nth) (PutNth 𝓤 H A mem run) → Walks 𝓤 H A row.ended stayed (WpFn 𝓤 H C Λ code.function) (row.clauses 𝓤 H A mem run)
   row-walks C Λ fm known = walked 𝓤 H A row.ended stayed (row.clauses 𝓤 H A mem run) (WpFn 𝓤 H C Λ code.function)
       (λ κs. (LL.vals (T.the-type (namedLft 5 0 tt κs)) (T′.the-laws (namedLft 5 0 tt κs)), (slice-vals, (slice-vals, (slice-vals, (records-vals, (slice-vals, (uint-vals w64, tt))))))))
       (λ κs. (LL.tells (T.the-type (namedLft 5 0 tt κs)) (T′.the-laws (namedLft 5 0 tt κs)), (shr-slice-tells (named 1) (κs .1 .0) u8, (shr-slice-tells (named 2) (κs .1 .1 .0) u16, (shr-slice-tells (named 3) (κs .1 .1 .1 .0) u16, (array-tells P.the-row (LL.vals P.the-type P′.the-laws) (LL.tells P.the-type P′.the-laws) 128, (shr-slice-tells (named 4) (κs .1 .1 .1 .1 .0) u8, (uint-tells w64, tt))))))))
@@ -249,7 +249,7 @@ module _ {M : Type 1} (𝓤 : URA M) (H : Heap 𝓤) (A : Atoms 𝓤) (W : Given
       (a .0 .out .ptr .0) (a .0 .out .ptr .1) (a .0 .out .name) (a .0 .out .now) (a .0 .mark) (a .1 .0) (a .1 .1 .0) (a .1 .1 .1 .0) (a .1 .1 .1 .1 .0) (a .1 .1 .1 .1 .1 .0) (a .1 .1 .1 .1 .1 .1 .0)
       (fields .1 .0 .1) (are .1 .1 .1 .1 .0) (are .1 .1 .1 .1 .1 .1 .0 .1) asked C Λ fm known (are .0) (fields .0 .0 .1) (are .1 .0 .0 .1) (are .1 .1 .0 .0 .1) (are .1 .1 .1 .0 .0 .1) (are .1 .1 .1 .1 .1 .0 .0 .1)))
 
-row-meets : {M : Type 1} (𝓤 : URA M) (H : Heap 𝓤) (A : Atoms 𝓤) → Given 𝓤 H A → (mem : Memory → SProp 𝓤) (run : Routine → Fun 𝓤) (𝓣 : Tables 𝓤 H) → Triple 𝓤 (𝓣 .C #sheets·put-nth) (PutNth 𝓤 H A mem run)
+row-meets : {M : Type 1} (𝓤 : URA M) (H : Heap 𝓤) (A : Atoms 𝓤) → Given 𝓤 H A → (mem : Memory → SProp 𝓤) (run : Routine → Fun 𝓤) (𝓣 : Tables 𝓤 H) → Triple 𝓤 (𝓣 .C #sheet-rows·put-nth) (PutNth 𝓤 H A mem run)
     → Meets 𝓤 H A row.signature (WpFn 𝓤 H (𝓣 .C) (𝓣 .Λ) code.function) (row.spec 𝓤 H A mem run)
 row-meets 𝓤 H A W mem run 𝓣 known =
     walk-meets 𝓤 H A row.ended stayed W (writer-spent-goes 4 𝓤 H A W, (goes-none-slice 𝓤 H A W 5 (1 ∷ []) tt (plain (λ _. u8)) yes, (goes-none-slice 𝓤 H A W 5 (2 ∷ []) tt (plain (λ _. u16)) yes, (goes-none-slice 𝓤 H A W 5 (3 ∷ []) tt (plain (λ _. u16)) yes, (goes-none 𝓤 H A W 5 (λ _. Records) yes (λ κs x f. refl), (goes-none-slice 𝓤 H A W 5 (4 ∷ []) tt (plain (λ _. u8)) yes, (goes-none 𝓤 H A W 5 (λ _. usize) yes (λ κs x f. refl), tt))))))) (row.clauses 𝓤 H A mem run)
@@ -261,4 +261,4 @@ row-spec 𝓤 H 𝓜 𝓖 𝓡 =
     entered 𝓤 H (tripleOf 𝓤 H (𝓖 .A) row.signature (row.spec 𝓤 H (𝓖 .A) (𝓜 .mem) (𝓡 .run)))
     (tables 𝓤 H 𝓜 𝓡 code.env .C) (tables 𝓤 H 𝓜 𝓡 code.env .Λ) #writer·page·row code.function (code.unfolded 𝓤 H 𝓜 𝓡)
     (row-meets 𝓤 H (𝓖 .A) (givenOf 𝓤 H 𝓜 𝓖) (𝓜 .mem) (𝓡 .run) (tablesOf 𝓤 H 𝓜 (tables 𝓤 H 𝓜 𝓡 code.env))
-    (cited 𝓤 H (PutNth 𝓤 H (𝓖 .A) (𝓜 .mem) (𝓡 .run)) 𝓜 𝓡 code.env #sheets·put-nth put-nth-def.routine code.calls-sheets·put-nth (put-nth-thm.met 𝓤 H 𝓜 𝓖 𝓡)))
+    (cited 𝓤 H (PutNth 𝓤 H (𝓖 .A) (𝓜 .mem) (𝓡 .run)) 𝓜 𝓡 code.env #sheet-rows·put-nth put-nth-def.routine code.calls-sheet-rows·put-nth (put-nth-thm.met 𝓤 H 𝓜 𝓖 𝓡)))

@@ -57,7 +57,7 @@ use Rattle.lists.specs.Runs.{codesIn}
 use Rattle.places.specs.declared.Place.{Place}
 use Rattle.places.proofs.Place as P
 use Rattle.places.proofs.Place.Laws as P′
-use Rattle.sheets.specs.Placed.{RowsThere, nthRow, placedRows}
+use Rattle.sheet_rows.specs.Placed.{RowsThere, nthRow, placedRows}
 use Rattle.writer.specs.declared.page.Writer.{Writer}
 use Rattle.writer.specs.Filled.{putAt, filled}
 use Rattle.writer.proofs.page.Writer as T

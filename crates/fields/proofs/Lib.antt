@@ -1,0 +1,3 @@
+-- Fields and numbers, byte by byte.
+pub mod Digits
+pub mod Quoted

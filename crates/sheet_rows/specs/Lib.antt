@@ -1,0 +1,2 @@
+-- The rows of a sheet as they are written.
+pub mod Placed
