@@ -1,6 +1,3 @@
--- Faces sorted by their bands, and the lowest that follows a face.
-pub mod Sides
-pub mod Rising
+-- The lowest face that follows a face, and the pass.
 pub mod Picking
--- The pass over them.
 pub mod Passing

@@ -8,10 +8,10 @@ use native.Mathlib.Decide.{ℕ-discrete, decLe}
 use lib.ListN.{length, getD}
 use Rattle.joins.specs.Faces.{mirror}
 use Rattle.parts.specs.Parts.{faceAt, InRun}
-use Rattle.faces.specs.Passing.{Follows, LowestFollows}
-use Rattle.faces.specs.Sorted.{sideAt, SortedFaces, Narrowed, MayFollow, Lower, LowestAmong}
+use Rattle.sorting.specs.Sorted.{sideAt, SortedFaces, Narrowed}
+use Rattle.faces.specs.Passing.{Follows, LowestFollows, MayFollow, Lower, LowestAmong}
 use Rattle.parts.proofs.Parts.{face-size}
-use Rattle.faces.proofs.Sides.{shares-side, side-shares}
+use Rattle.sorting.proofs.Sides.{shares-side, side-shares}
 
 module _ {Ok : ℕ → Type 0} {b old : ℕ} where
   pub lower-taken : b < old → Ok b → Lower Ok b old b

@@ -1,3 +1,2 @@
--- The faces of parts: sorted by their bands, and joined in one pass.
-pub mod Sorted
+-- The faces of parts joined in one pass over them, sorted.
 pub mod Passing

@@ -3,10 +3,10 @@ ghost use Prim.Native.Nat.{ℕ, _*_, _<_, _≤_};
 ghost use lib.ListN.{length, getD};
 ghost use Rattle.joins.specs.Rows.{Row};
 ghost use Rattle.parts.specs.Parts.{InRun};
-ghost use Rattle.faces.specs.Passing.{LowestFollows};
-ghost use Rattle.faces.specs.Sorted.{SortedFaces, MayFollow, Lower, LowestAmong};
-use crate::sorting::first_place;
-use crate::sorting::range_end;
+ghost use Rattle.sorting.specs.Sorted.{SortedFaces};
+ghost use Rattle.faces.specs.Passing.{LowestFollows, MayFollow, Lower, LowestAmong};
+use sorting::first_place;
+use sorting::range_end;
 
 // b where it is below `best` and may follow, else `best`.
 fn lower(after: &[usize], head: usize, other: usize, b: usize, best: usize) -> usize

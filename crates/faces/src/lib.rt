@@ -1,5 +1,4 @@
 // The order of the faces of kept codes: sorted by their bands, then joined in one pass.
-mod sorting; // faces in the order of their bands
 mod following; // the face that comes after a face
 mod pass; // the joining, and the order of faces
 

@@ -6,9 +6,9 @@ ghost use Rattle.joins.specs.Rounds.{orderOf};
 ghost use Rattle.joins.specs.Rows.{Unjoined, Laid, Wrote};
 ghost use Rattle.joins.specs.Pass.{PassedRow};
 ghost use Rattle.parts.specs.Parts.{InRun, partShared};
-ghost use Rattle.faces.specs.Sorted.{SortedFaces};
+ghost use Rattle.sorting.specs.Sorted.{SortedFaces};
 use crate::following::lowest_following;
-use crate::sorting::sort_faces;
+use sorting::sort_faces;
 
 // The join from face a with overlap o, where a ends a piece and some face can follow: of those the lowest.
 fn join_from(

@@ -3,7 +3,7 @@ use borrow.Author.Needs.{needs}
 use mathlib.Core.Path.{_≡_}
 use native.Mathlib.Omega.{arith}
 use Prim.Native.Nat.{_-_, _≤_}
-use Rattle.faces.specs.Sorted.{MayFollow, LowestAmong}
+use Rattle.faces.specs.Passing.{MayFollow, LowestAmong}
 use Rattle.faces.proofs.Picking.{lowest-none, lowest-next}
 use Rattle.faces.proofs.following.lowest_among.Statement.{statement}
 use Rattle.faces.proofs.following.lowest_among.Tie as tie

@@ -1,7 +1,7 @@
 -- `lowest_following`: the places on side 1 have the faces that begin with a's last o bands, and all of these.
 use borrow.Author.Needs.{needs}
 use native.Mathlib.Omega.{arith}
-use Rattle.faces.proofs.Rising.{narrow-none, narrow-on, narrow-order, seeks}
+use Rattle.sorting.proofs.Rising.{narrow-none, narrow-on, narrow-order, seeks}
 use Rattle.faces.proofs.Picking.{follows-none, follows-lowest}
 use Rattle.faces.proofs.following.lowest_following.Statement.{statement}
 use Rattle.faces.proofs.following.lowest_following.Tie as tie

@@ -1,4 +1,4 @@
--- `fields::byte_size` meets its contract: a quote is written twice.
+-- `quoting::byte_size` meets its contract: a quote is written twice.
 use mathlib.Core.Path.{sym, ap}
 use lib.ListN.{length}
 use Rattle.fields.proofs.Quoted.{quote-twice, other-once}

@@ -1,4 +1,4 @@
--- `fields::doubled_size` meets its contract: the invariant has the length of the bytes so far, at most two for each.
+-- `quoting::doubled_size` meets its contract: the invariant has the length of the bytes so far, at most two for each.
 use mathlib.Core.Path.{_≡_, ap, _∙_}
 use mathlib.Core.List.{[], _∷_}
 use Prim.Native.Nat.{_+_, _*_, _-_, _≤_}

@@ -1,4 +1,4 @@
--- `fields::field_size` meets its contract: two quotes besides the name with its quotes doubled, or the name as it is.
+-- `quoting::field_size` meets its contract: two quotes besides the name with its quotes doubled, or the name as it is.
 use mathlib.Core.Path.{sym, ap, _∙_}
 use mathlib.Core.List.{[], _∷_}
 use lib.ListN.{length, length-append}

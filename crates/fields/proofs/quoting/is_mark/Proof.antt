@@ -1,4 +1,4 @@
--- `fields::is_mark` meets its contract.
+-- `quoting::is_mark` meets its contract.
 use Rattle.fields.proofs.Quoted.{is-comma, no-comma}
 use Rattle.fields.proofs.quoting.is_mark.Statement.{statement}
 use Rattle.fields.proofs.quoting.is_mark.Tie as tie

@@ -1,4 +1,4 @@
--- `fields::needs_quotes` meets its contract: the name needs quotes exactly when the bytes not yet looked at do.
+-- `quoting::needs_quotes` meets its contract: the name needs quotes exactly when the bytes not yet looked at do.
 use mathlib.Core.Path.{refl}
 use Prim.Native.Nat.{_-_}
 use lib.ListN.{length}

@@ -1,4 +1,4 @@
--- `fields::put_byte` meets its contract: a quote is written twice, any other byte by one store.
+-- `quoting::put_byte` meets its contract: a quote is written twice, any other byte by one store.
 use mathlib.Core.Path.{ap}
 use lib.ListN.{length}
 use Rattle.words.proofs.Written.{written-as, one-written}

@@ -1,4 +1,4 @@
--- `fields::put_doubled` meets its contract: the invariant has the bytes so far written and those behind them still to come.
+-- `quoting::put_doubled` meets its contract: the invariant has the bytes so far written and those behind them still to come.
 use mathlib.Core.Path.{refl}
 use mathlib.Core.List.{[], _∷_}
 use Prim.Native.Nat.{_-_}

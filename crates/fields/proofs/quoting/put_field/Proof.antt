@@ -1,4 +1,4 @@
--- `fields::put_field` meets its contract: the name as it is, or a quote, the name with its quotes doubled, and a quote.
+-- `quoting::put_field` meets its contract: the name as it is, or a quote, the name with its quotes doubled, and a quote.
 use mathlib.Core.Path.{_≡_, refl, sym, ap, _∙_}
 use mathlib.Core.List.{[], _∷_, _++_}
 use lib.ListN.{length}

@@ -1,8 +1,8 @@
 -- `insert` moves the later places up, from the last down. The invariant: those from i on are moved.
 use borrow.Author.Needs.{needs}
-use Rattle.faces.proofs.Rising.{Shifted, shift-next, shift-end}
-use Rattle.faces.proofs.sorting.insert.Statement.{statement}
-use Rattle.faces.proofs.sorting.insert.Tie as tie
+use Rattle.sorting.proofs.Rising.{Shifted, shift-next, shift-end}
+use Rattle.sorting.proofs.insertion.insert.Statement.{statement}
+use Rattle.sorting.proofs.insertion.insert.Tie as tie
 
 abbrev Inv-loop : tie.InvT-loop
 Inv-loop sorted₀ p m f i₀ sorted i = Shifted sorted₀ p m i sorted

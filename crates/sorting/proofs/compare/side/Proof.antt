@@ -5,9 +5,9 @@ use mathlib.Core.Path.{sym}
 use Prim.Native.Nat.{_-_}
 use Rattle.words.specs.Ways.{wayOf}
 use Rattle.words.proofs.Ways.{way-size}
-use Rattle.faces.proofs.Sides.{Siding, siding-none, siding-short, siding-less, siding-more, siding-same, siding-all}
-use Rattle.faces.proofs.sorting.side.Statement.{statement}
-use Rattle.faces.proofs.sorting.side.Tie as tie
+use Rattle.sorting.proofs.Sides.{Siding, siding-none, siding-short, siding-less, siding-more, siding-same, siding-all}
+use Rattle.sorting.proofs.compare.side.Statement.{statement}
+use Rattle.sorting.proofs.compare.side.Tie as tie
 
 abbrev Inv-loop : tie.InvT-loop
 Inv-loop c turned d other o start i₀ i = Siding (wayOf turned c) (wayOf other d) start o i

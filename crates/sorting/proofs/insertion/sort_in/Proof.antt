@@ -4,9 +4,9 @@ use mathlib.Core.Path.{sym}
 use Prim.Native.Nat.{_/_}
 use native.Mathlib.Omega.{arith}
 use Rattle.parts.proofs.Parts.{face-size}
-use Rattle.faces.proofs.Rising.{narrow-none, seeks, sorted-next}
-use Rattle.faces.proofs.sorting.sort_in.Statement.{statement}
-use Rattle.faces.proofs.sorting.sort_in.Tie as tie
+use Rattle.sorting.proofs.Rising.{narrow-none, seeks, sorted-next}
+use Rattle.sorting.proofs.insertion.sort_in.Statement.{statement}
+use Rattle.sorting.proofs.insertion.sort_in.Tie as tie
 
 mul-first-place : tie.Need-mul-first-place
 mul-first-place c = search needs

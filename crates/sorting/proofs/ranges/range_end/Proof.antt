@@ -1,9 +1,9 @@
 -- `range_end`: the first place of the range decides whether it is empty; if not, what is behind it is searched.
 use borrow.Author.Needs.{needs}
 use native.Mathlib.Omega.{arith}
-use Rattle.faces.proofs.Rising.{seeks-at, narrow-up, narrow-down}
-use Rattle.faces.proofs.sorting.range_end.Statement.{statement}
-use Rattle.faces.proofs.sorting.range_end.Tie as tie
+use Rattle.sorting.proofs.Rising.{seeks-at, narrow-up, narrow-down}
+use Rattle.sorting.proofs.ranges.range_end.Statement.{statement}
+use Rattle.sorting.proofs.ranges.range_end.Tie as tie
 
 returns : tie.Need-returns
 returns c =

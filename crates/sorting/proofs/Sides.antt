@@ -12,7 +12,7 @@ use lib.ListN.{length, take, drop, getD, length-append, length-drop, take-append
 use lib.Seq.{drop-cons, drop-at, getD-drop}
 use borrow.Author.Tests.{ltb-true, ltb-false, lt-ltb, le-ltb}
 use Rattle.words.specs.Overlap.{Shares}
-use Rattle.faces.specs.Sorted.{sideOf, NotBefore, ending}
+use Rattle.sorting.specs.Sorted.{sideOf, NotBefore, ending}
 
 compare : (y x : ℕ) → (y < x) ⊎ ((x < y) ⊎ (y ≡ x))
 compare y x = go (ltb y x) refl (ltb x y) refl

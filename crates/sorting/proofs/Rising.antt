@@ -9,9 +9,9 @@ use native.Mathlib.Decide.{ℕ-discrete, decLe}
 use lib.ListN.{length, getD, set, length-set}
 use lib.Seq.{getD-set-same, getD-set-other}
 use Rattle.parts.specs.Parts.{faceAt, PartThere, InRun}
-use Rattle.faces.specs.Sorted.{NotBefore, ending, SortedBelow, Seeks, sideAt, Narrowed, Inserted}
+use Rattle.sorting.specs.Sorted.{NotBefore, ending, SortedBelow, Seeks, sideAt, Narrowed, Inserted}
 use Rattle.parts.proofs.Parts.{part-there}
-use Rattle.faces.proofs.Sides.{side-rises, side-total, ending-whole}
+use Rattle.sorting.proofs.Sides.{side-rises, side-total, ending-whole}
 
 -- bisection
 pub narrow-none : {s : ℕ → ℕ} {k m : ℕ} → Narrowed s k m 0 m

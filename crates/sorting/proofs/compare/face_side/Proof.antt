@@ -5,8 +5,8 @@ use Prim.Native.Nat.{_/_}
 use lib.ListN.{length}
 use Rattle.parts.proofs.Parts.{part-size}
 use native.Mathlib.Omega.{arith}
-use Rattle.faces.proofs.sorting.face_side.Statement.{statement}
-use Rattle.faces.proofs.sorting.face_side.Tie as tie
+use Rattle.sorting.proofs.compare.face_side.Statement.{statement}
+use Rattle.sorting.proofs.compare.face_side.Tie as tie
 
 part-requires : tie.Need-part-requires
 part-requires c κs = search needs

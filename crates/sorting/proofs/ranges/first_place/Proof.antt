@@ -4,10 +4,10 @@ use borrow.Author.Needs.{needs}
 use mathlib.Core.Path.{_≡_}
 use native.Mathlib.Omega.{arith}
 use Prim.Native.Nat.{_+_, _-_, _/_}
-use Rattle.faces.specs.Sorted.{sideAt, Narrowed}
-use Rattle.faces.proofs.Rising.{seeks-at, narrow-up, narrow-down}
-use Rattle.faces.proofs.sorting.first_place.Statement.{statement}
-use Rattle.faces.proofs.sorting.first_place.Tie as tie
+use Rattle.sorting.specs.Sorted.{sideAt, Narrowed}
+use Rattle.sorting.proofs.Rising.{seeks-at, narrow-up, narrow-down}
+use Rattle.sorting.proofs.ranges.first_place.Statement.{statement}
+use Rattle.sorting.proofs.ranges.first_place.Tie as tie
 
 abbrev Inv-loop : tie.InvT-loop
 Inv-loop bands starts sizes sorted from m a o k low₀ high₀ low high = Narrowed (sideAt bands starts sizes sorted a o) k m low high

@@ -1,12 +1,10 @@
 -- Words in the order of their bands (lexicographic), the faces of parts sorted in it, and what a search among them gives.
 use mathlib.Core.Path.{_≡_}
-use mathlib.Core.Logic.{_≢_}
 use mathlib.Core.List.{List, [], _∷_}
 use Prim.Native.Nat.{ℕ, _+_, _-_, _*_, _/_, _≤_, _<_}
 use lib.Dec.{ltb}
 use lib.ListN.{length, drop, getD}
 use Rattle.words.specs.Tests.{pick}
-use Rattle.joins.specs.Faces.{mirror}
 use Rattle.parts.specs.Parts.{faceAt, PartThere}
 
 -- The words that begin with x stand together in the order. A word is before them (0), one of them (1) or after them (2);
@@ -61,22 +59,3 @@ pub record Inserted (old : List ℕ) (p m f : ℕ) (new : List ℕ) : Type 0 whe
   pub before : (i : ℕ) → i < p → getD new i 0 ≡ getD old i 0
   pub at : getD new p 0 ≡ f
   pub later : (i : ℕ) → p ≤ i → i < m → getD new (i + 1) 0 ≡ getD old i 0
-
--- Whatever its bands, b may come after a: it begins a piece, and is neither the head of a's own piece nor `other`, a's
--- mirror.
-pub record MayFollow (after : List ℕ) (head other b : ℕ) : Type 0 where
-  pub begins : getD after (mirror b) 0 ≡ 0
-  pub unclosed : b ≢ head
-  pub unmirrored : b ≢ other
-
--- the lower of r and b, if b may follow; else r as it was
-pub record Lower (Ok : ℕ → Type 0) (b old r : ℕ) : Type 0 where
-  pub falls : r ≤ old
-  pub passed : Ok b → r ≤ b
-  pub taken : r < old → (r ≡ b) × Ok r
-
--- the lowest face that may follow, of those at the places from `low` to before `high`; m where there is none
-pub record LowestAmong (Ok : ℕ → Type 0) (sorted : List ℕ) (m low high r : ℕ) : Type 0 where
-  pub bound : r ≤ m
-  pub found : r < m → (i : ℕ) × (low ≤ i) × (i < high) × (getD sorted i 0 ≡ r) × Ok r
-  pub lowest : (i : ℕ) → low ≤ i → i < high → Ok (getD sorted i 0) → r ≤ getD sorted i 0

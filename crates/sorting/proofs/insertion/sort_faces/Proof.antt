@@ -4,10 +4,10 @@ use lib.ListN.{length}
 use native.Mathlib.Omega.{arith}
 use mathlib.Core.Path.{_≡_}
 use Prim.Native.Nat.{_*_, _-_, _≤_}
-use Rattle.faces.specs.Sorted.{SortedBelow}
-use Rattle.faces.proofs.Rising.{sorted-none}
-use Rattle.faces.proofs.sorting.sort_faces.Statement.{statement}
-use Rattle.faces.proofs.sorting.sort_faces.Tie as tie
+use Rattle.sorting.specs.Sorted.{SortedBelow}
+use Rattle.sorting.proofs.Rising.{sorted-none}
+use Rattle.sorting.proofs.insertion.sort_faces.Statement.{statement}
+use Rattle.sorting.proofs.insertion.sort_faces.Tie as tie
 
 abbrev Inv-loop : tie.InvT-loop
 Inv-loop bands starts sizes n sorted₀ f₀ sorted f = (f ≤ 2 * n) × (length sorted ≡ length sorted₀) × SortedBelow bands starts sizes f sorted

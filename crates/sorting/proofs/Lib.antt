@@ -1,0 +1,3 @@
+-- Faces in the order of their bands.
+pub mod Sides
+pub mod Rising

@@ -1,0 +1,2 @@
+-- The faces of parts, sorted by their bands.
+pub mod Sorted
