@@ -24,12 +24,12 @@ use Rattle.greedy.proofs.Claims.{each-laid}
 use Rattle.places.specs.declared.Place as declared
 use Rattle.places.specs.declared.Checked.{Checked}
 use Rattle.places.specs.declared.Checked.the-variants.{Held}
-use Rattle.places.specs.Check.{none-missing, missing, missingOn}
-use Rattle.places.specs.Answers.{PlaceRecord, CheckAnswer, CheckOutcome, refused, missing-code, held, AreRecords, Fit}
-use Rattle.places.specs.Answers.{ChecksInto, false-list, long-ribbon, no-colour, no-join, no-place, short-buffer, filled}
-use Rattle.places.specs.Answers.{less, recordsFrom, suppliedFault, heldOutcome, checkOutcome}
+use Rattle.checking.specs.Check.{none-missing, missing, missingOn}
+use Rattle.checking.specs.Answers.{PlaceRecord, CheckAnswer, CheckOutcome, refused, missing-code, held, AreRecords, Fit}
+use Rattle.checking.specs.Answers.{ChecksInto, false-list, long-ribbon, no-colour, no-join, no-place, short-buffer, filled}
+use Rattle.checking.specs.Answers.{less, recordsFrom, suppliedFault, heldOutcome, checkOutcome}
 use Rattle.places.specs.Calls.{recordOf, recordsOf, blanks, answerOf, ChecksRibbon, ChecksInRoom, ChecksAlone, FindsPlaces}
-use Rattle.places.proofs.Answers.{checks-ours, into-only}
+use Rattle.checking.proofs.Answers.{checks-ours, into-only}
 use Rattle.places.proofs.Finding.{count-missing, none-is-missing, records-are}
 
 -- The refusals of what is supplied, by their tests; no list gets stuck.

@@ -29,10 +29,10 @@ use Rattle.places.specs.declared.Place as declared
 use Rattle.places.specs.declared.Way.{Way}
 use Rattle.places.specs.declared.Way.the-variants.{Given, Turned}
 use Rattle.places.specs.Starts.{StartsWithin}
-use Rattle.places.specs.Check.{none-missing, missing, all-held, lowest, missingOn}
-use Rattle.places.specs.Answers.{PlaceRecord, recordsFrom}
+use Rattle.checking.specs.Check.{none-missing, missing, all-held, lowest, missingOn}
+use Rattle.checking.specs.Answers.{PlaceRecord, recordsFrom}
 use Rattle.places.specs.Calls.{wayAt, recordOf, recordsOf, blanks, FindsPlaces}
-use Rattle.places.proofs.Check.{misses-ours, missing-one}
+use Rattle.checking.proofs.Check.{misses-ours, missing-one}
 
 -- a place on a row starts within it
 pub starts-within : (c row : List ℕ) {n : ℕ} → length row ≤ n → found (placeOf turned c row) ≡ true

@@ -1,8 +1,4 @@
--- The check: its search, and the call.
-pub mod Check
-pub mod Answers
-pub mod Impostors
-pub mod WrongCalls
+-- The difference of two lengths, the search for places, and what a check promises.
 pub mod Signed
 pub mod Finding
 pub mod Calls

@@ -7,7 +7,7 @@ use borrow.Author.Tests.{lt-ltb, le-leb, lt-leb}
 use mir.Syntax.{w32}
 use mir.Val.{toZ, ofZ, SFits}
 use mir.ValLaws.{toZ-pos, toZ-ofZ}
-use Rattle.places.specs.Answers.{less}
+use Rattle.checking.specs.Answers.{less}
 
 neg-pos : (n : ℕ) → 0 < n → pos 0 -ℤ pos n ≡ negsuc (n - 1)
 neg-pos zero h = absurd (omega arith)

@@ -11,8 +11,8 @@ use Rattle.lists.specs.Answers.{refusalOf}
 use Rattle.lists.specs.Outcome.{outcome}
 use Rattle.lists.specs.Runs.{codesIn, over}
 use Rattle.greedy.specs.Dropping.{codeAt}
-use Rattle.places.specs.Answers.{CheckAnswer, refused, missing-code, held, PlaceRecord}
-use Rattle.places.specs.Answers.{ChecksInto, recordsFrom, checkOutcome}
+use Rattle.checking.specs.Answers.{CheckAnswer, refused, missing-code, held, PlaceRecord}
+use Rattle.checking.specs.Answers.{ChecksInto, recordsFrom, checkOutcome}
 use Rattle.places.specs.declared.Way.{Way}
 use Rattle.places.specs.declared.Way.the-variants.{Given, Turned}
 use Rattle.places.specs.declared.Place as declared

@@ -1,5 +1,3 @@
--- Places of all listed codes, and the check of a supplied ribbon.
-pub mod Check
+-- Places of all listed codes, and what the calls that check a supplied ribbon promise.
 pub mod Starts
-pub mod Answers
 pub mod Calls

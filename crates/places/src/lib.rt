@@ -5,7 +5,7 @@ ghost use Prim.Native.Nat.{_≤_};
 ghost use lib.ListN.{length};
 ghost use Rattle.lists.specs.Fit.{listOk};
 ghost use Rattle.lists.specs.Refusals.{whole};
-ghost use Rattle.places.specs.Answers as a;
+ghost use Rattle.checking.specs.Answers as a;
 ghost use Rattle.places.specs.Calls.{FindsPlaces, ChecksInRoom, ChecksAlone, answerOf, blanks};
 
 mod records; // the record of a code

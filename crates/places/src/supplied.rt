@@ -7,7 +7,7 @@ ghost use Rattle.words.specs.Turn.{turned};
 ghost use Rattle.lists.specs.Runs.{codesIn};
 ghost use Rattle.lists.specs.Fit.{listOk};
 ghost use Rattle.greedy.specs.Layout.{ribbonFor};
-ghost use Rattle.places.specs.Answers.{less, suppliedFault};
+ghost use Rattle.checking.specs.Answers.{less, suppliedFault};
 use layout::Laid;
 use layout::lay_ribbon;
 

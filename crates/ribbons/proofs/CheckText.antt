@@ -17,8 +17,8 @@ use Rattle.lists.specs.Fit.{listOk}
 use Rattle.lists.proofs.Rules.{codes-checked, is-fit-list}
 use Rattle.grammar.specs.RibbonFile.{ribbonOf}
 use Rattle.greedy.proofs.Laying.{never-stuck-rule}
-use Rattle.places.specs.Answers.{CheckAnswer, refused, missing-code, held, PlaceRecord, CheckOutcome, ChecksInto}
-use Rattle.places.specs.Answers.{false-list, long-ribbon, no-colour, no-join, no-place, short-buffer, filled}
+use Rattle.checking.specs.Answers.{CheckAnswer, refused, missing-code, held, PlaceRecord, CheckOutcome, ChecksInto}
+use Rattle.checking.specs.Answers.{false-list, long-ribbon, no-colour, no-join, no-place, short-buffer, filled}
 use Rattle.places.specs.Calls.{recordOf, answerOf, ChecksAlone}
 use Rattle.places.specs.declared.Place as declared
 use Rattle.places.specs.declared.Way.the-variants.{Given}

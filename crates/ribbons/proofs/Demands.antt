@@ -25,8 +25,8 @@ use Rattle.greedy.proofs.Room.{ribbon-at-most, accepts}
 use Rattle.sheets.proofs.Answers.{sheets-ours, sheets-only}
 use Rattle.sheets.proofs.Room.{accepts as sheet-accepts}
 use Rattle.sheets.proofs.ReadBack.{reads-back}
-use Rattle.places.proofs.Check.{misses-ours, misses-only}
-use Rattle.places.proofs.Answers.{checks-ours, checks-only}
+use Rattle.checking.proofs.Check.{misses-ours, misses-only}
+use Rattle.checking.proofs.Answers.{checks-ours, checks-only}
 use Rattle.ribbons.proofs.Prints.{ribbon-program-ours, ribbon-program-only, sheet-program-ours, sheet-program-only}
 use Rattle.ribbons.proofs.Prints.{check-program-ours, check-program-only}
 use Rattle.ribbons.proofs.OfCalls.{passes-exactly, sheet-is-true}

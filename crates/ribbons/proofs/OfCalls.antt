@@ -22,14 +22,14 @@ use Rattle.greedy.proofs.Laying.{lays-twice, never-stuck-rule}
 use Rattle.sheets.specs.Answers.{SheetAnswer, SheetOutcome, written, SheetsInto}
 use Rattle.sheets.specs.Answers as sheet
 use Rattle.sheets.proofs.ReadBack.{reads-back}
-use Rattle.places.specs.Check.{Missing, none-missing, missing, all-held}
-use Rattle.places.specs.Answers.{CheckAnswer, CheckOutcome, refused, missing-code, held, Fit, ChecksInto}
-use Rattle.places.specs.Answers.{false-list, long-ribbon, no-colour, no-join, no-place, short-buffer, filled}
+use Rattle.checking.specs.Check.{Missing, none-missing, missing, all-held}
+use Rattle.checking.specs.Answers.{CheckAnswer, CheckOutcome, refused, missing-code, held, Fit, ChecksInto}
+use Rattle.checking.specs.Answers.{false-list, long-ribbon, no-colour, no-join, no-place, short-buffer, filled}
 use Rattle.places.specs.Calls.{recordOf, recordsOf, ChecksRibbon}
 use Rattle.places.specs.declared.Place as declared
 use Rattle.places.specs.declared.Checked.{Checked}
 use Rattle.places.specs.declared.Checked.the-variants as checked
-use Rattle.places.proofs.Check.{missing-one}
+use Rattle.checking.proofs.Check.{missing-one}
 use Rattle.ribbons.specs.Demands.{PassesExactly, SheetIs, SheetIsTrue}
 
 -- answers told apart by a number

@@ -28,10 +28,10 @@ use Rattle.grammar.proofs.Exactly.{Accepted, Kind, unfit, tells, kind}
 use Rattle.grammar.proofs.RibbonFile.{takes-ours, file-only}
 use Rattle.greedy.specs.Layout.{ribbonFor}
 use Rattle.greedy.proofs.Claims.{lays-ours, lays-only}
-use Rattle.places.specs.Check.{Missing, none-missing, missing, missingOn, IsMissing, all-held, lowest}
-use Rattle.places.specs.Answers.{Difference, less}
-use Rattle.places.proofs.Check.{misses-ours, missing-one}
-use Rattle.places.proofs.Answers.{difference, difference-one}
+use Rattle.checking.specs.Check.{Missing, none-missing, missing, missingOn, IsMissing, all-held, lowest}
+use Rattle.checking.specs.Answers.{Difference, less}
+use Rattle.checking.proofs.Check.{misses-ours, missing-one}
+use Rattle.checking.proofs.Answers.{difference, difference-one}
 use Rattle.sheets.specs.Sheet.{SheetFor, sheetText}
 use Rattle.sheets.proofs.Decimal.{digits-ours, digits-one}
 use Rattle.sheets.proofs.Sheet.{sheet-ours, sheet-only}

@@ -16,7 +16,7 @@ use Rattle.lists.specs.Refusals.{refusal}
 use Rattle.grammar.specs.Orders.{readOrders}
 use Rattle.grammar.specs.RibbonFile.{ribbonOf}
 use Rattle.greedy.specs.Layout.{ribbonFor}
-use Rattle.places.specs.Check.{none-missing, missing, missingOn}
+use Rattle.checking.specs.Check.{none-missing, missing, missingOn}
 use Rattle.sheets.specs.Sheet.{rowText, sheetHeading}
 use Rattle.ribbons.specs.Programs.{ofList, refusedLine, ribbonOutput, sheetOutput, foundLine, checkedLine, checkOutput}
 use Rattle.ribbons.specs.Prints.{RibbonProgram, SheetProgram, CheckProgram}

@@ -36,9 +36,9 @@ use Rattle.sheets.specs.Answers.{SheetOutcome, written, Sheets, sheetFor, sheet
 use Rattle.sheets.specs.ReadBack.{ReadsBack}
 use Rattle.writer.specs.Calls.{WritesSheet}
 use Rattle.writer.specs.declared.Wrote.the-variants.{Sheet}
-use Rattle.places.specs.Check.{Misses, missingOn}
-use Rattle.places.specs.Check as check
-use Rattle.places.specs.Answers.{PlaceRecord, CheckOutcome, Fit, Checks, checkOutcome}
+use Rattle.checking.specs.Check.{Misses, missingOn}
+use Rattle.checking.specs.Check as check
+use Rattle.checking.specs.Answers.{PlaceRecord, CheckOutcome, Fit, Checks, checkOutcome}
 use Rattle.places.specs.Calls.{ChecksRibbon}
 use Rattle.places.specs.declared.Place as declared
 use Rattle.places.specs.declared.Checked.{Checked}

@@ -14,8 +14,8 @@ use Rattle.grammar.specs.Grammar.{Reads}
 use Rattle.grammar.specs.RibbonFile.{RibbonFile}
 use Rattle.joins.specs.Rules.{Chosen}
 use Rattle.greedy.specs.Rules.{Lays, AllStand}
-use Rattle.places.specs.Check.{missing, IsMissing}
-use Rattle.places.specs.Answers.{Difference}
+use Rattle.checking.specs.Check.{missing, IsMissing}
+use Rattle.checking.specs.Answers.{Difference}
 use Rattle.sheets.specs.Decimal.{Digits}
 use Rattle.sheets.specs.Sheet.{SheetFor}
 

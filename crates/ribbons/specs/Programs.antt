@@ -16,8 +16,8 @@ use Rattle.grammar.specs.Files.{comma, lineBreak, Orders}
 use Rattle.grammar.specs.Orders.{readOrders}
 use Rattle.grammar.specs.RibbonFile.{ribbonOf}
 use Rattle.greedy.specs.Layout.{ribbonFor}
-use Rattle.places.specs.Check.{Missing, none-missing, missing, missingOn}
-use Rattle.places.specs.Answers.{less}
+use Rattle.checking.specs.Check.{Missing, none-missing, missing, missingOn}
+use Rattle.checking.specs.Answers.{less}
 use Rattle.sheets.specs.Decimal.{decimal}
 use Rattle.sheets.specs.Sheet.{sheetText}
 

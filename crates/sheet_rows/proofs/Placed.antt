@@ -22,7 +22,7 @@ use Rattle.lists.proofs.Runs.{codes-count, adds-up}
 use Rattle.lists.proofs.Rules.{is-fit-list, is-fit-names}
 use Rattle.greedy.specs.Layout.{ribbonFor}
 use Rattle.greedy.proofs.Room.{ribbon-at-most}
-use Rattle.places.specs.Answers.{PlaceRecord, recordsFrom}
+use Rattle.checking.specs.Answers.{PlaceRecord, recordsFrom}
 use Rattle.places.specs.Calls.{wayAt, recordOf, recordsOf, FindsPlaces}
 use Rattle.places.specs.declared.Place as declared
 use Rattle.places.specs.declared.Way.{Way}

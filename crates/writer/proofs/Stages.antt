@@ -26,7 +26,7 @@ use Rattle.greedy.proofs.Claims.{each-laid}
 use Rattle.greedy.proofs.Room.{ribbon-at-most}
 use Rattle.places.specs.Calls.{FindsPlaces}
 use Rattle.places.specs.declared.Place as declared
-use Rattle.places.proofs.Check.{stands-at}
+use Rattle.checking.proofs.Check.{stands-at}
 use Rattle.sheet_rows.specs.Placed.{RowsThere, placedSheet}
 use Rattle.sheets.specs.Answers.{SheetAnswer, SheetOutcome, refused, written, SheetsInto, sheetFor, sheetOutcome}
 use Rattle.sheet_rows.proofs.Placed.{placed-is-sheet, rows-there}

@@ -9,7 +9,7 @@ use mir.ValLaws.{toZ-ofZ}
 use Rattle.words.proofs.Deciding.{holds}
 use Rattle.lists.proofs.Rules.{is-fit-list}
 use Rattle.greedy.proofs.Room.{ribbon-at-most}
-use Rattle.places.specs.Answers.{less}
+use Rattle.checking.specs.Answers.{less}
 use Rattle.places.specs.Calls.{answerOf}
 use Rattle.places.proofs.Calls.{not-faulty, refused-in-room, missing-in-room, short-in-room, held-in-room}
 use Rattle.places.proofs.check_places.Statement.{statement}

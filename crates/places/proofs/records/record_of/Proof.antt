@@ -2,7 +2,7 @@
 use mathlib.Core.Path.{ap}
 use borrow.Author.Needs.{needs}
 use Rattle.words.specs.Place.{Place}
-use Rattle.places.specs.Answers.{PlaceRecord}
+use Rattle.checking.specs.Answers.{PlaceRecord}
 use Rattle.places.proofs.records.record_of.Statement.{statement}
 use Rattle.places.proofs.records.record_of.Tie as tie
 

@@ -17,10 +17,10 @@ use Rattle.lists.specs.Outcome.{outcome}
 use Rattle.lists.specs.Runs.{codesIn, over}
 use Rattle.lists.specs.Fit.{allBands}
 use Rattle.greedy.specs.Layout.{ribbonFor}
-use Rattle.places.specs.Check.{none-missing, missing, missingOn}
-use Rattle.places.specs.Answers.{PlaceRecord, CheckOutcome, refused, missing-code, held, Checks, less, recordsFrom}
-use Rattle.places.specs.Answers.{checkOutcome}
-use Rattle.places.proofs.Answers.{checks-only}
+use Rattle.checking.specs.Check.{none-missing, missing, missingOn}
+use Rattle.checking.specs.Answers.{PlaceRecord, CheckOutcome, refused, missing-code, held, Checks, less, recordsFrom}
+use Rattle.checking.specs.Answers.{checkOutcome}
+use Rattle.checking.proofs.Answers.{checks-only}
 
 abbrev Call : Type 0
 Call = List ℕ → List ℕ → List ℕ → List PlaceRecord → CheckOutcome

@@ -24,11 +24,11 @@ use Rattle.lists.proofs.Rules.{is-false-codes, all-bands}
 use Rattle.greedy.specs.Layout.{ribbonFor}
 use Rattle.greedy.proofs.Claims.{lays-ours, lays-only, each-laid}
 use Rattle.greedy.proofs.Laying.{never-stuck-rule}
-use Rattle.places.specs.Check.{Missing, none-missing, missing, IsMissing, all-held, lowest, missingOn}
-use Rattle.places.specs.Answers.{PlaceRecord, CheckOutcome, refused, missing-code, held, Difference, more, fewer}
-use Rattle.places.specs.Answers.{AreRecords, Fit, ChecksInto, false-list, long-ribbon, no-colour, no-join}
-use Rattle.places.specs.Answers.{no-place, short-buffer, filled, Checks, less, recordsFrom, checkOutcome}
-use Rattle.places.proofs.Check.{misses-ours, missing-one}
+use Rattle.checking.specs.Check.{Missing, none-missing, missing, IsMissing, all-held, lowest, missingOn}
+use Rattle.checking.specs.Answers.{PlaceRecord, CheckOutcome, refused, missing-code, held, Difference, more, fewer}
+use Rattle.checking.specs.Answers.{AreRecords, Fit, ChecksInto, false-list, long-ribbon, no-colour, no-join}
+use Rattle.checking.specs.Answers.{no-place, short-buffer, filled, Checks, less, recordsFrom, checkOutcome}
+use Rattle.checking.proofs.Check.{misses-ours, missing-one}
 
 pub difference : (a b : ℕ) → Difference a b (less a b)
 difference a b = by (is-le b a)

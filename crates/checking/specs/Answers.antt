@@ -19,7 +19,7 @@ use Rattle.lists.specs.Fit.{allBands, listOk}
 use Rattle.joins.specs.Rules.{Chosen}
 use Rattle.greedy.specs.Rules.{Lays, Stuck, AllStand}
 use Rattle.greedy.specs.Layout.{ribbonFor, isStuck}
-use Rattle.places.specs.Check.{none-missing, missing, missingOn, IsMissing}
+use Rattle.checking.specs.Check.{none-missing, missing, missingOn, IsMissing}
 
 -- refused, missing the code of a number, or held with the difference
 pub data CheckAnswer : Type 0 where

@@ -10,8 +10,8 @@ use Rattle.words.specs.Texts.{text}
 use Rattle.words.proofs.Deciding.{decides-one}
 use Rattle.words.proofs.Standing.{is-some-way}
 use Rattle.words.proofs.Placing.{found-exactly}
-use Rattle.places.specs.Check.{Missing, none-missing, missing, Misses, missingFrom, missingOn}
-use Rattle.places.proofs.Check.{misses-only}
+use Rattle.checking.specs.Check.{Missing, none-missing, missing, Misses, missingFrom, missingOn}
+use Rattle.checking.proofs.Check.{misses-only}
 
 -- the first code of which a test is false, counted from a number on; of two codes without a place the last
 abbrev firstFrom : (List ℕ → List ℕ → Bool) → ℕ → List (List ℕ) → List ℕ → Missing

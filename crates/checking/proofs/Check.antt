@@ -13,8 +13,8 @@ use Rattle.words.proofs.Placing.{found-exactly}
 use Rattle.greedy.specs.Dropping.{codeAt}
 use Rattle.greedy.specs.Rules.{AllStand}
 use Rattle.greedy.proofs.Keeping.{code-in}
-use Rattle.places.specs.Check.{Missing, none-missing, missing, IsMissing, all-held, lowest, Misses}
-use Rattle.places.specs.Check.{missingFrom, missingOn}
+use Rattle.checking.specs.Check.{Missing, none-missing, missing, IsMissing, all-held, lowest, Misses}
+use Rattle.checking.specs.Check.{missingFrom, missingOn}
 
 module _ (turn : List ℕ → List ℕ) (row : List ℕ) where
   -- the same of codes that are numbered from i on
