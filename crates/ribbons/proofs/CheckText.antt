@@ -25,10 +25,10 @@ use Rattle.places.specs.declared.Way.the-variants.{Given}
 use Rattle.places.specs.declared.Checked.{Checked}
 use Rattle.places.specs.declared.Checked.the-variants.{Held}
 use Rattle.sheets.proofs.Decimal.{digits-ours}
-use Rattle.ribbons.specs.Programs.{refusedLine, heldLine, missingLine, checkedLine, WritesOver}
-use Rattle.ribbons.specs.Prints.{CheckLine}
-use Rattle.ribbons.specs.Prints as p
-use Rattle.ribbons.proofs.Prints.{line-ours, signed-ours, check-line-only}
+use Rattle.programs.specs.Programs.{refusedLine, heldLine, missingLine, checkedLine, WritesOver}
+use Rattle.programs.specs.Prints.{CheckLine}
+use Rattle.programs.specs.Prints as p
+use Rattle.programs.proofs.Prints.{line-ours, signed-ours, check-line-only}
 use Rattle.ribbons.proofs.Outputs.{writes-over}
 
 abbrev pub lineOf : CheckAnswer → List ℕ

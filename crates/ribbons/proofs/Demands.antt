@@ -27,8 +27,8 @@ use Rattle.sheets.proofs.Room.{accepts as sheet-accepts}
 use Rattle.sheets.proofs.ReadBack.{reads-back}
 use Rattle.checking.proofs.Check.{misses-ours, misses-only}
 use Rattle.checking.proofs.Answers.{checks-ours, checks-only}
-use Rattle.ribbons.proofs.Prints.{ribbon-program-ours, ribbon-program-only, sheet-program-ours, sheet-program-only}
-use Rattle.ribbons.proofs.Prints.{check-program-ours, check-program-only}
+use Rattle.programs.proofs.Prints.{ribbon-program-ours, ribbon-program-only, sheet-program-ours, sheet-program-only}
+use Rattle.programs.proofs.Prints.{check-program-ours, check-program-only}
 use Rattle.ribbons.proofs.OfCalls.{passes-exactly, sheet-is-true}
 use Rattle.ribbons.specs.Demands.{Pinned, NoFreedom, Demand3, Demands}
 

@@ -1,10 +1,4 @@
--- What the programs write: the claims on it, and that the routines write it. The demands, proved.
-pub mod Prints
-pub mod WrongPrograms
-pub mod Enough
-pub mod Signs
-pub mod Refused
-pub mod Found
+-- What the calls for the programs write is what these are to write. The demands, proved.
 pub mod Outputs
 pub mod RibbonText
 pub mod SheetText

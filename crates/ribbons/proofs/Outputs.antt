@@ -32,7 +32,7 @@ use Rattle.orders.specs.Calls.{Accepts, Refuses, in-file, in-buffers, Means, Re
 use Rattle.orders.specs.declared.Read.{Read}
 use Rattle.orders.specs.declared.Read.the-variants.{Refused, Orders}
 use Rattle.orders.proofs.Calls.{handed}
-use Rattle.ribbons.specs.Programs.{refusedLine, ofList, WritesOver}
+use Rattle.programs.specs.Programs.{refusedLine, ofList, WritesOver}
 
 pub writes-over : {text before after : List ℕ} {r : ℕ} → r ≡ length text → after ≡ over text before
     → WritesOver text before after r

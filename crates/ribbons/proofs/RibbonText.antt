@@ -17,7 +17,7 @@ use Rattle.greedy.proofs.Room.{ribbon-at-most}
 use Rattle.layout.specs.Calls.{LaysRibbon}
 use Rattle.layout.specs.declared.Laid.the-variants as laid
 use Rattle.layout.proofs.Calls.{size-is, left-is}
-use Rattle.ribbons.specs.Programs.{WritesOver}
+use Rattle.programs.specs.Programs.{WritesOver}
 use Rattle.ribbons.proofs.Outputs.{writes-over}
 
 module _ (run ls before : List ℕ) {after : List ℕ} (ok : listOk run ls ≡ true) (room : 8194 ≤ length before) {n saved : ℕ}

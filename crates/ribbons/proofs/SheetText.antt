@@ -17,7 +17,7 @@ use Rattle.sheets.proofs.Room.{sheet-at-most, accepts}
 use Rattle.writer.specs.Calls.{WritesSheet}
 use Rattle.writer.specs.declared.Wrote.{Wrote}
 use Rattle.writer.specs.declared.Wrote.the-variants.{Refused, Sheet}
-use Rattle.ribbons.specs.Programs.{WritesOver}
+use Rattle.programs.specs.Programs.{WritesOver}
 use Rattle.ribbons.proofs.Outputs.{writes-over}
 
 module _ (run ls name-run name-ls before : List ℕ) {after : List ℕ} {r : Wrote} (p : WritesSheet run ls name-run name-ls before after r)

@@ -43,8 +43,8 @@ use Rattle.places.specs.Calls.{ChecksRibbon}
 use Rattle.places.specs.declared.Place as declared
 use Rattle.places.specs.declared.Checked.{Checked}
 use Rattle.places.specs.declared.Checked.the-variants.{Missing, Held}
-use Rattle.ribbons.specs.Programs.{ribbonOutput, sheetOutput, checkOutput}
-use Rattle.ribbons.specs.Prints.{RibbonProgram, SheetProgram, CheckProgram}
+use Rattle.programs.specs.Programs.{ribbonOutput, sheetOutput, checkOutput}
+use Rattle.programs.specs.Prints.{RibbonProgram, SheetProgram, CheckProgram}
 
 -- Each definition meets the claim that pins it.
 pub record Pinned : Type 0 where

@@ -1,4 +1,2 @@
 -- The demands, collected.
 pub mod Demands
-pub mod Programs
-pub mod Prints

@@ -1,7 +1,6 @@
 // The crate that others link: the public calls under one roof, and for each program the call that computes its output.
 mod check_printing; // the check program's output
 mod limits; // sizes that always suffice
-mod lines; // the lines that programs write
 mod ribbon_printing; // the ribbon program's
 mod sheet_printing; // the sheet program's
 

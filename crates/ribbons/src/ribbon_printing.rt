@@ -9,13 +9,13 @@ ghost use Rattle.lists.specs.Runs.{codesIn};
 ghost use Rattle.lists.specs.Fit.{listOk};
 ghost use Rattle.grammar.specs.Files.{lineBreak};
 ghost use Rattle.greedy.specs.Layout.{ribbonFor};
-ghost use Rattle.ribbons.specs.Programs.{ribbonOutput, WritesOver};
+ghost use Rattle.programs.specs.Programs.{ribbonOutput, WritesOver};
 use crate::limits::MOST_BANDS;
 use crate::limits::MOST_CODES;
 use crate::limits::MOST_NAME_BYTES;
-use crate::lines::refused_line;
 use layout::Laid;
 use layout::lay_ribbon;
+use lines::refused_line;
 use orders::Read;
 use orders::read_orders;
 

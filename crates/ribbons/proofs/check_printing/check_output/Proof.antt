@@ -8,7 +8,7 @@ use borrow.Author.Needs.{needs}
 use lib.Seq.{length-take-le}
 use Rattle.grammar.specs.Files.{Orders}
 use Rattle.grammar.specs.RibbonFile.{ribbonOf}
-use Rattle.ribbons.specs.Programs.{checkedLine}
+use Rattle.programs.specs.Programs.{checkedLine}
 use Rattle.ribbons.proofs.Outputs.{accepted, counts-fit, list-fits, ordersIn, writes-of-list, writes-refusal}
 use Rattle.ribbons.proofs.CheckText.{of-file}
 use Rattle.ribbons.proofs.check_printing.check_output.Statement.{statement}

@@ -12,7 +12,7 @@ use Rattle.lists.specs.Runs.{over}
 use Rattle.lists.proofs.Runs.{written-over}
 use Rattle.grammar.specs.Files.{comma, lineBreak}
 use Rattle.sheets.specs.Decimal.{decimal}
-use Rattle.ribbons.specs.Programs.{refusedLine}
+use Rattle.programs.specs.Programs.{refusedLine}
 
 five-written : (a b c d e : List ℕ) {row row₁ row₂ row₃ row₄ after : List ℕ} {k₁ k₂ k₃ k₄ end : ℕ}
     → Written row 0 a row₁ k₁ → Written row₁ k₁ b row₂ k₂ → Written row₂ k₂ c row₃ k₃ → Written row₃ k₃ d row₄ k₄

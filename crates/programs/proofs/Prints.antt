@@ -35,8 +35,8 @@ use Rattle.checking.proofs.Answers.{difference, difference-one}
 use Rattle.sheets.specs.Sheet.{SheetFor, sheetText}
 use Rattle.sheets.proofs.Decimal.{digits-ours, digits-one}
 use Rattle.sheets.proofs.Sheet.{sheet-ours, sheet-only}
-use Rattle.ribbons.specs.Programs.{refusedLine, ofList, ribbonOutput, sheetOutput, signed, foundLine, checkedLine, checkOutput}
-use Rattle.ribbons.specs.Prints as p
+use Rattle.programs.specs.Programs.{refusedLine, ofList, ribbonOutput, sheetOutput, signed, foundLine, checkedLine, checkOutput}
+use Rattle.programs.specs.Prints as p
 
 -- lines of refusals
 pub line-ours : (n row : ℕ) → p.RefusedLine n row (refusedLine (refusal n row))

@@ -18,7 +18,7 @@ use Rattle.words.specs.Written.{Written}
 use Rattle.words.proofs.Written.{both-written}
 use Rattle.sheets.specs.Decimal.{decimal}
 use Rattle.sheets.proofs.Decimal.{decimal-few}
-use Rattle.ribbons.specs.Programs.{signed}
+use Rattle.programs.specs.Programs.{signed}
 
 -- what a cast to 32 bits without sign asks
 abbrev Castable : ℤ → Type 0

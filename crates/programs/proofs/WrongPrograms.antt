@@ -18,9 +18,9 @@ use Rattle.grammar.specs.RibbonFile.{ribbonOf}
 use Rattle.greedy.specs.Layout.{ribbonFor}
 use Rattle.checking.specs.Check.{none-missing, missing, missingOn}
 use Rattle.sheets.specs.Sheet.{rowText, sheetHeading}
-use Rattle.ribbons.specs.Programs.{ofList, refusedLine, ribbonOutput, sheetOutput, foundLine, checkedLine, checkOutput}
-use Rattle.ribbons.specs.Prints.{RibbonProgram, SheetProgram, CheckProgram}
-use Rattle.ribbons.proofs.Prints.{ribbon-program-only, sheet-program-only, check-program-only}
+use Rattle.programs.specs.Programs.{ofList, refusedLine, ribbonOutput, sheetOutput, foundLine, checkedLine, checkOutput}
+use Rattle.programs.specs.Prints.{RibbonProgram, SheetProgram, CheckProgram}
+use Rattle.programs.proofs.Prints.{ribbon-program-only, sheet-program-only, check-program-only}
 
 abbrev One : Type 0
 One = List ℕ → List ℕ

@@ -1,9 +1,9 @@
--- `lines::put_signed` meets its contract: how far the number is from zero, in at most ten digits, behind a `-` if below.
+-- `put_signed` meets its contract: how far the number is from zero, in at most ten digits, behind a `-` if below.
 use native.Mathlib.Omega.{arith}
 use borrow.Author.Needs.{needs}
-use Rattle.ribbons.proofs.Signs.{ten-digits, put-above, put-below}
-use Rattle.ribbons.proofs.lines.put_signed.Statement.{statement}
-use Rattle.ribbons.proofs.lines.put_signed.Tie as tie
+use Rattle.lines.proofs.Signs.{ten-digits, put-above, put-below}
+use Rattle.lines.proofs.put_signed.Statement.{statement}
+use Rattle.lines.proofs.put_signed.Tie as tie
 
 size-of-requires : tie.Need-size-of-requires
 size-of-requires c κs = search needs

@@ -16,7 +16,7 @@ use Rattle.lists.specs.Runs.{over}
 use Rattle.lists.proofs.Runs.{written-over}
 use Rattle.grammar.specs.Files.{lineBreak}
 use Rattle.sheets.specs.Decimal.{decimal}
-use Rattle.ribbons.specs.Programs.{signed, heldLine, missingLine}
+use Rattle.programs.specs.Programs.{signed, heldLine, missingLine}
 
 three-written : (a b c : List ℕ) {row row₁ row₂ after : List ℕ} {k₁ k₂ end : ℕ} → Written row 0 a row₁ k₁
     → Written row₁ k₁ b row₂ k₂ → Written row₂ k₂ c after end

@@ -16,9 +16,9 @@ use Rattle.grammar.specs.Grammar.{long-file}
 use Rattle.grammar.specs.Orders.{readOrders}
 use Rattle.grammar.specs.RibbonFile.{ribbonOf}
 use Rattle.grammar.proofs.Only.{reads-only}
-use Rattle.ribbons.specs.Programs.{refusedLine, ofList, checkedLine, checkOutput, ReadsEnough}
-use Rattle.ribbons.specs.Prints as prints
-use Rattle.ribbons.proofs.Prints.{line-ours, check-line-only}
+use Rattle.programs.specs.Programs.{refusedLine, ofList, checkedLine, checkOutput, ReadsEnough}
+use Rattle.programs.specs.Prints as prints
+use Rattle.programs.proofs.Prints.{line-ours, check-line-only}
 
 -- what is the same of all rows from a length on needs no more of a row
 same-of-start : {A : Type 0} (f : List ℕ → A) (n : ℕ) (end : A) → ((s : List ℕ) → n ≤ length s → f s ≡ end) → (s : List ℕ)

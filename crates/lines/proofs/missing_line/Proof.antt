@@ -1,10 +1,10 @@
--- `lines::held_line` meets its contract: a number of 32 bits has at most ten digits and a sign, and the parts are the line.
+-- `missing_line` meets its contract: a number of 32 bits has at most ten digits, and the parts are the line.
 use native.Mathlib.Omega.{arith}
 use borrow.Author.Needs.{needs}
-use Rattle.ribbons.proofs.Signs.{eleven-bytes}
-use Rattle.ribbons.proofs.Found.{held-written}
-use Rattle.ribbons.proofs.lines.held_line.Statement.{statement}
-use Rattle.ribbons.proofs.lines.held_line.Tie as tie
+use Rattle.sheets.proofs.Decimal.{decimal-few}
+use Rattle.lines.proofs.Found.{missing-written}
+use Rattle.lines.proofs.missing_line.Statement.{statement}
+use Rattle.lines.proofs.missing_line.Tie as tie
 
 slice-aggregate-put-word : tie.Need-slice-aggregate-put-word
 slice-aggregate-put-word c = search needs
@@ -12,8 +12,11 @@ slice-aggregate-put-word c = search needs
 put-word-requires : tie.Need-put-word-requires
 put-word-requires c κs = search needs
 
-put-signed-requires : tie.Need-put-signed-requires
-put-signed-requires c κs = search needs
+put-decimal-requires : tie.Need-put-decimal-requires
+put-decimal-requires c κs =
+    let w = c .before .before .before in
+    let s = w .before .before .before .before in
+    omega (arith, s .pre, w .put-word .ensures .end-is, w .put-word .kept .1 .0, decimal-few (s .args .k) (s .fits .k .fits))
 
 slice-aggregate-put-word-2 : tie.Need-slice-aggregate-put-word-2
 slice-aggregate-put-word-2 c = search needs
@@ -28,9 +31,9 @@ put-word-requires-2 c κs =
       s .pre,
       w .put-word .ensures .end-is,
       w .put-word .kept .1 .0,
-      eleven-bytes (s .args .d) (s .fits .d),
-      p .put-signed .ensures .end-is,
-      p .put-signed .kept .1 .0,
+      decimal-few (s .args .k) (s .fits .k .fits),
+      p .put-decimal .ensures .end-is,
+      p .put-decimal .kept .1 .0,
     )
 
 same-length : tie.Need-same-length
@@ -41,16 +44,15 @@ returns c =
     let z = c .before .before in
     let p = z .before .before .before .before .before in
     let w = p .before .before .before .before in
-    let s = w .before .before .before .before in
-    held-written (s .args .d) (s .fits .d) (w .put-word .ensures) (p .put-signed .ensures) (z .put-word2 .ensures)
+    missing-written (w .before .before .before .before .args .k) (w .put-word .ensures) (p .put-decimal .ensures) (z .put-word2 .ensures)
 
-pub held-line-spec : {M : Type 1} → statement M
-held-line-spec =
+pub missing-line-spec : {M : Type 1} → statement M
+missing-line-spec =
     tie.close
     (tie.spec
     slice-aggregate-put-word
     put-word-requires
-    put-signed-requires
+    put-decimal-requires
     slice-aggregate-put-word-2
     put-word-requires-2
     same-length

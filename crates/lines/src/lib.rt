@@ -6,7 +6,7 @@ ghost use lib.ListN.{length};
 ghost use Rattle.lists.specs.Answers.{refusalOf};
 ghost use Rattle.lists.specs.Runs.{over};
 ghost use Rattle.words.specs.Written.{Written};
-ghost use Rattle.ribbons.specs.Programs.{refusedLine, signed, heldLine, missingLine};
+ghost use Rattle.programs.specs.Programs.{refusedLine, signed, heldLine, missingLine};
 
 // The line of a refusal, written at the beginning of a row that has room for any such line; the answer is its length.
 pub fn refused_line(r: lists::Refusal, row: &mut [u8]) -> usize

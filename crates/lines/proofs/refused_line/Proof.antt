@@ -1,4 +1,4 @@
--- `lines::refused_line` meets its contract. Behind each part of the line there is room for the rest, since no number of 32
+-- `refused_line` meets its contract. Behind each part of the line there is room for the rest, since no number of 32
 -- bits has more than ten digits; and the parts are the line.
 use Prim.Native.Nat.{_+_, _≤_}
 use native.Mathlib.Omega.{arith}
@@ -6,9 +6,9 @@ use borrow.Author.Needs.{needs}
 use lib.ListN.{length}
 use Rattle.sheets.specs.Decimal.{decimal}
 use Rattle.sheets.proofs.Decimal.{decimal-few}
-use Rattle.ribbons.proofs.Refused.{refused-written}
-use Rattle.ribbons.proofs.lines.refused_line.Statement.{statement}
-use Rattle.ribbons.proofs.lines.refused_line.Tie as tie
+use Rattle.lines.proofs.Refused.{refused-written}
+use Rattle.lines.proofs.refused_line.Statement.{statement}
+use Rattle.lines.proofs.refused_line.Tie as tie
 
 few : (c : tie.After-struct-known)
     → (length (decimal (c .before .before .args .r .number)) ≤ 10) × (length (decimal (c .before .before .args .r .row)) ≤ 10)

@@ -1,8 +1,8 @@
--- `lines::size_of` meets its contract: below zero by the opposite in 64 bits.
+-- `size_of` meets its contract: below zero by the opposite in 64 bits.
 use borrow.Author.Needs.{needs}
-use Rattle.ribbons.proofs.Signs.{cast-fits, wide-fits, opposite-fits, opposite-castable, as-far-from-zero}
-use Rattle.ribbons.proofs.lines.size_of.Statement.{statement}
-use Rattle.ribbons.proofs.lines.size_of.Tie as tie
+use Rattle.lines.proofs.Signs.{cast-fits, wide-fits, opposite-fits, opposite-castable, as-far-from-zero}
+use Rattle.lines.proofs.size_of.Statement.{statement}
+use Rattle.lines.proofs.size_of.Tie as tie
 
 cast-result : tie.Need-cast-result
 cast-result c = let s = c .before in cast-fits (s .args .d) (s .fits .d) (c .if1 .taken)

@@ -1,0 +1,1 @@
+// What the three programs write: the claims on it, and ours. No routine.
