@@ -21,8 +21,8 @@ use Rattle.greedy.specs.Answers as lays
 use Rattle.layout.specs.Calls.{LaysRibbon}
 use Rattle.layout.specs.declared.Laid.{Laid}
 use Rattle.layout.specs.declared.Laid.the-variants as lay
-use Rattle.places.specs.Answers.{CheckAnswer, CheckOutcome, PlaceRecord, ChecksInto}
-use Rattle.places.specs.Answers as checks
+use Rattle.checking.specs.Answers.{CheckAnswer, CheckOutcome, PlaceRecord, ChecksInto}
+use Rattle.checking.specs.Answers as checks
 use Rattle.places.specs.Calls.{ChecksAlone, blanks}
 use Rattle.places.specs.declared.Checked.{Checked}
 use Rattle.places.specs.declared.Checked.the-variants as check
