@@ -13,13 +13,13 @@ use Rattle.lists.specs.Runs.{flat, lengths, over}
 use Rattle.lists.specs.Outcome.{outcome}
 use Rattle.grammar.specs.Files.{Orders, orders, bad}
 use Rattle.grammar.specs.Orders.{readOrders}
-use Rattle.orders.specs.Gathering.{Gathers}
+use Rattle.entries.specs.Gathering.{Gathers}
 use Rattle.grammar.specs.Answers.{Lent, lent, resultOf, refused, Short, outcomeFor, readOutcome}
 use Rattle.orders.specs.Calls.{Gives}
-use Rattle.orders.specs.declared.collect.Gathered.{Gathered}
+use Rattle.entries.specs.declared.collect.Gathered.{Gathered}
 use Rattle.orders.specs.declared.Read.the-variants as answers
 use Rattle.grammar.proofs.Answers.{if-short, if-filled}
-use Rattle.orders.proofs.Filing.{filed-size, filed-count}
+use Rattle.entries.proofs.Filing.{filed-size, filed-count}
 
 -- the first n bytes of a buffer fit where n do
 pub part-fits : (n : ℕ) (xs ys : List ℕ) → n ≤ length xs → n ≤ length ys → 0 + length (take n xs) ≤ length ys

@@ -1,6 +1,4 @@
--- The call that reads: words filed in runs, rows checked and gathered, the outcome handed over; and what it means.
-pub mod Filing
-pub mod Checking
-pub mod Gathering
+-- The call that reads: what is gathered is copied and handed over; and what that means.
+pub mod Copying
 pub mod HandingOver
 pub mod Calls

@@ -6,12 +6,12 @@ use Prim.Native.Nat.{ℕ, _<_}
 use Rattle.lists.specs.Refusals.{shortBuffer}
 use Rattle.lists.specs.Answers.{refusalOf}
 use Rattle.grammar.specs.Files as files
-use Rattle.orders.specs.Gathering.{Gathers}
+use Rattle.entries.specs.Gathering.{Gathers}
 use Rattle.grammar.specs.Grammar.{Reads}
 use Rattle.grammar.specs.HandsOn.{HandedOn}
 use Rattle.grammar.specs.Answers.{Lent, resultOf, putInto, ReadAnswer, ReadOutcome, refused, read, counts, Short}
 use Rattle.grammar.specs.Answers.{outcomeFor, readOutcome}
-use Rattle.orders.specs.declared.collect.Gathered.{Gathered}
+use Rattle.entries.specs.declared.collect.Gathered.{Gathered}
 use Rattle.orders.specs.declared.Read.{Read}
 use Rattle.orders.specs.declared.Read.the-variants.{Refused, Orders}
 

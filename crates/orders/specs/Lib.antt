@@ -1,3 +1,2 @@
--- What the steps of reading a file give, and what the call that reads an order list promises.
-pub mod Gathering
+-- What the call that reads an order list promises.
 pub mod Calls

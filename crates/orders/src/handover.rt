@@ -3,11 +3,11 @@ ghost use mathlib.Core.Path.{_≡_};
 ghost use Prim.Native.Nat.{_≤_};
 ghost use lib.ListN.{length, take};
 ghost use Rattle.lists.specs.Runs.{over};
-ghost use Rattle.orders.specs.Gathering.{Roomy};
+ghost use Rattle.entries.specs.Gathering.{Roomy};
 ghost use Rattle.grammar.specs.Answers.{lent};
 ghost use Rattle.orders.specs.Calls.{HandsOver};
 use crate::Read;
-use crate::collect::Gathered;
+use entries::Gathered;
 use lists::Refusal;
 
 pub fn refused(number: u8, row: u32) -> Read

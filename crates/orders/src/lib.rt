@@ -2,11 +2,9 @@
 ghost use Rattle.grammar.specs.Answers.{lent};
 ghost use Rattle.orders.specs.Calls.{ReadsOrders};
 
-mod checks; // the faults of one row
-mod collect; // all rows of a file
 mod handover; // the lent buffers filled
 
-use collect::gather;
+use entries::gather;
 use handover::hand_over;
 use handover::refused;
 use lists::Refusal;

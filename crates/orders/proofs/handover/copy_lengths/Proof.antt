@@ -1,7 +1,7 @@
 -- `copy_lengths` meets its contract: after i turns the buffer holds the first i lengths and, past them, what it had.
 use Prim.Native.Nat.{_≤_, _-_}
 use borrow.Author.Needs.{needs}
-use Rattle.orders.proofs.Filing.{Copied, copied-none, copied-more, copied-all}
+use Rattle.orders.proofs.Copying.{Copied, copied-none, copied-more, copied-all}
 use Rattle.orders.proofs.handover.copy_lengths.Statement.{statement}
 use Rattle.orders.proofs.handover.copy_lengths.Tie as tie
 

@@ -15,12 +15,12 @@ use Rattle.lists.specs.Runs.{codesIn}
 use Rattle.grammar.specs.Files.{Orders, orders, bad, add}
 use Rattle.grammar.specs.Rows.{firstRow}
 use Rattle.grammar.specs.Orders.{headFault, entryFault, nameIn, codeIn, rowFault, rowsFrom, readOrders}
-use Rattle.orders.specs.Gathering.{ChecksRow, entriesFrom, Roomy, Filed, Gathers, refusedWith}
-use Rattle.orders.specs.declared.checks.Checked.{Checked}
-use Rattle.orders.specs.declared.collect.Gathered.{Gathered}
+use Rattle.entries.specs.Gathering.{ChecksRow, entriesFrom, Roomy, Filed, Gathers, refusedWith}
+use Rattle.entries.specs.declared.checks.Checked.{Checked}
+use Rattle.entries.specs.declared.collect.Gathered.{Gathered}
 use Rattle.grammar.proofs.Faults.{of-entry, sound-row}
 use Rattle.grammar.proofs.Entries.{name-kept, code-kept, room}
-use Rattle.orders.proofs.Filing.{filed-none, filed-count, filed-words, filed-add, length-part}
+use Rattle.entries.proofs.Filing.{filed-none, filed-count, filed-words, filed-add, length-part}
 
 -- The definition, step by step: at the end, at a faulty row, and past an entry.
 module _ (f k : ℕ) (ns cs : List (List ℕ)) (s : List ℕ) where

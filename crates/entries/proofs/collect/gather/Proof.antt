@@ -2,10 +2,10 @@
 use mathlib.Core.Path.{_∙_}
 use borrow.Author.Needs.{needs}
 use Rattle.grammar.specs.Orders.{headFault}
-use Rattle.orders.specs.Gathering.{ChecksRow}
-use Rattle.orders.proofs.Gathering.{good-heading, bad-heading, gathers-bad, gathers-same}
-use Rattle.orders.proofs.collect.gather.Statement.{statement}
-use Rattle.orders.proofs.collect.gather.Tie as tie
+use Rattle.entries.specs.Gathering.{ChecksRow}
+use Rattle.entries.proofs.Gathering.{good-heading, bad-heading, gathers-bad, gathers-same}
+use Rattle.entries.proofs.collect.gather.Statement.{statement}
+use Rattle.entries.proofs.collect.gather.Tie as tie
 
 -- Places: the call's own, and where row 1 was read, from where it has no fault.
 abbrev start : tie.After-check-row → tie.Start

@@ -3,7 +3,7 @@ ghost use mathlib.Core.Path.{_≡_};
 ghost use Prim.Native.Nat.{_≤_, _<_};
 ghost use lib.ListN.{length};
 ghost use Rattle.grammar.specs.Orders.{readOrders};
-ghost use Rattle.orders.specs.Gathering.{entriesFrom, Roomy, Gathers, refusedWith};
+ghost use Rattle.entries.specs.Gathering.{entriesFrom, Roomy, Gathers, refusedWith};
 use crate::checks::check_row;
 
 // The answer for a file: a refusal's number and row, or 0 and 0 with how many codes, bands and bytes of names were

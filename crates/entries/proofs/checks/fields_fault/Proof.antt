@@ -5,9 +5,9 @@ use lib.ListN.{take}
 use lib.Seq.{length-take-le}
 use borrow.Author.Needs.{needs}
 use Rattle.lists.specs.Runs.{codesIn}
-use Rattle.orders.proofs.Checking.{in-heading, in-entry}
-use Rattle.orders.proofs.checks.fields_fault.Statement.{statement}
-use Rattle.orders.proofs.checks.fields_fault.Tie as tie
+use Rattle.entries.proofs.Checking.{in-heading, in-entry}
+use Rattle.entries.proofs.checks.fields_fault.Statement.{statement}
+use Rattle.entries.proofs.checks.fields_fault.Tie as tie
 
 add-nend : tie.Need-add-nend
 add-nend c = search needs

@@ -17,7 +17,7 @@ use Rattle.grammar.specs.Files.{wordName, wordCode}
 use Rattle.grammar.specs.Rows.{Row, firstRow}
 use Rattle.grammar.specs.Orders.{nameIn, codeIn, headFault, entryFault, rowFault}
 use Rattle.rows.specs.Scans.{partOf, ReadsRow}
-use Rattle.orders.specs.Gathering.{fieldsFault, ChecksRow}
+use Rattle.entries.specs.Gathering.{fieldsFault, ChecksRow}
 use Rattle.rows.specs.declared.scan.RowRead.{RowRead}
 use Rattle.lists.proofs.Passing.{upTo, part-to}
 

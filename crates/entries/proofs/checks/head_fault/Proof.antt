@@ -5,9 +5,9 @@ use borrow.Author.Tests.{not-true, not-false}
 use borrow.Author.Needs.{needs}
 use Rattle.words.specs.Tests.{same}
 use Rattle.grammar.specs.Files.{wordName}
-use Rattle.orders.proofs.Checking.{head-fault-by}
-use Rattle.orders.proofs.checks.head_fault.Statement.{statement}
-use Rattle.orders.proofs.checks.head_fault.Tie as tie
+use Rattle.entries.proofs.Checking.{head-fault-by}
+use Rattle.entries.proofs.checks.head_fault.Statement.{statement}
+use Rattle.entries.proofs.checks.head_fault.Tie as tie
 
 -- The first field is `name`.
 named : (c : tie.Else1) → same (c .before .before .before .before .before .args .name .now) wordName ≡ true

@@ -5,7 +5,7 @@ ghost use lib.ListN.{length, take};
 ghost use Rattle.lists.specs.Runs.{codesIn, total};
 ghost use Rattle.grammar.specs.Orders.{headFault, entryFault};
 ghost use Rattle.rows.specs.Scans.{partOf};
-ghost use Rattle.orders.specs.Gathering.{fieldsFault, ChecksRow};
+ghost use Rattle.entries.specs.Gathering.{fieldsFault, ChecksRow};
 use rows::read_row;
 
 // A row with its fault (0 for none), the lengths of its two fields, and where the next row begins.

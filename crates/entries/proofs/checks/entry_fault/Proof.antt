@@ -10,9 +10,9 @@ use Rattle.lists.specs.Runs.{codesIn}
 use Rattle.lists.specs.Fit.{isIn, allBands, nameOk}
 use Rattle.lists.proofs.Runs.{codes-count}
 use Rattle.grammar.specs.Orders.{entryFault}
-use Rattle.orders.proofs.Checking.{entry-fault-by}
-use Rattle.orders.proofs.checks.entry_fault.Statement.{statement}
-use Rattle.orders.proofs.checks.entry_fault.Tie as tie
+use Rattle.entries.proofs.Checking.{entry-fault-by}
+use Rattle.entries.proofs.checks.entry_fault.Statement.{statement}
+use Rattle.entries.proofs.checks.entry_fault.Tie as tie
 
 abbrev start : tie.Else1 → tie.Start
 start c = c .before .before .before .before .before .before

@@ -10,8 +10,8 @@ use Rattle.grammar.specs.Files.{Orders}
 use Rattle.grammar.specs.Rows.{Row, firstRow}
 use Rattle.grammar.specs.Orders.{headFault, entryFault, nameIn, codeIn, rowFault, rowsFrom}
 use Rattle.rows.specs.Scans.{partOf, KeptTo}
-use Rattle.orders.specs.declared.checks.Checked.{Checked}
-use Rattle.orders.specs.declared.collect.Gathered.{Gathered}
+use Rattle.entries.specs.declared.checks.Checked.{Checked}
+use Rattle.entries.specs.declared.collect.Gathered.{Gathered}
 
 -- the faults of two fields, in row 1 or after entries with these names
 abbrev pub fieldsFault : Bool → List (List ℕ) → List ℕ → List ℕ → ℕ

@@ -7,12 +7,12 @@ use lib.ListN.{length, take, length-set}
 use lib.Seq.{length-take-le}
 use borrow.Author.Needs.{needs}
 use Rattle.lists.specs.Runs.{codesIn}
-use Rattle.orders.specs.Gathering.{ChecksRow, entriesFrom, Roomy}
+use Rattle.entries.specs.Gathering.{ChecksRow, entriesFrom, Roomy}
 use Rattle.grammar.specs.Orders.{entryFault}
-use Rattle.orders.proofs.Filing.{filed-total}
-use Rattle.orders.proofs.Gathering.{Going, begins, bad-entry, small, goes-on, no-entries, gathered, gathers-bad}
-use Rattle.orders.proofs.collect.gather_entries.Statement.{statement}
-use Rattle.orders.proofs.collect.gather_entries.Tie as tie
+use Rattle.entries.proofs.Filing.{filed-total}
+use Rattle.entries.proofs.Gathering.{Going, begins, bad-entry, small, goes-on, no-entries, gathered, gathers-bad}
+use Rattle.entries.proofs.collect.gather_entries.Statement.{statement}
+use Rattle.entries.proofs.collect.gather_entries.Tie as tie
 
 abbrev Inv-loop : tie.InvT-loop
 Inv-loop file start bands₀ lengths₀ names₀ sizes₀ at₀ count₀ bmark₀ nmark₀ bands lengths names sizes at count bmark nmark =

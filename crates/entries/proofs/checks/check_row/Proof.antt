@@ -7,10 +7,10 @@ use borrow.Author.Tests.{not-true, not-false}
 use borrow.Author.Needs.{needs}
 use Rattle.lists.specs.Runs.{codesIn, total}
 use Rattle.rows.specs.Scans.{partOf, ReadsRow}
-use Rattle.orders.specs.Gathering.{fieldsFault}
-use Rattle.orders.proofs.Checking.{checks-broken, checks-wide, checks-two}
-use Rattle.orders.proofs.checks.check_row.Statement.{statement}
-use Rattle.orders.proofs.checks.check_row.Tie as tie
+use Rattle.entries.specs.Gathering.{fieldsFault}
+use Rattle.entries.proofs.Checking.{checks-broken, checks-wide, checks-two}
+use Rattle.entries.proofs.checks.check_row.Statement.{statement}
+use Rattle.entries.proofs.checks.check_row.Tie as tie
 
 -- Places: the call's own, and where the row was read, from where it has two fields.
 abbrev start : tie.After-read-row → tie.Start

@@ -1,0 +1,4 @@
+-- Words filed in runs; rows checked and gathered.
+pub mod Filing
+pub mod Checking
+pub mod Gathering

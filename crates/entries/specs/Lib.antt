@@ -1,0 +1,2 @@
+-- What the steps of reading a file give.
+pub mod Gathering
