@@ -1,4 +1,3 @@
--- The call that reads: what is gathered is copied and handed over; and what that means.
-pub mod Copying
+-- The call that reads: what is gathered is handed over; and what that means.
 pub mod HandingOver
 pub mod Calls

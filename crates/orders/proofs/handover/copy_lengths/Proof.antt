@@ -1,18 +1,22 @@
 -- `copy_lengths` meets its contract: after i turns the buffer holds the first i lengths and, past them, what it had.
+use mathlib.Core.Path.{_≡_, refl}
 use Prim.Native.Nat.{_≤_, _-_}
+use native.Mathlib.Omega.{arith}
 use borrow.Author.Needs.{needs}
-use Rattle.orders.proofs.Copying.{Copied, copied-none, copied-more, copied-all}
+use lib.ListN.{length, take}
+use Rattle.lists.specs.Runs.{over}
+use Rattle.lists.proofs.Runs.{over-next}
 use Rattle.orders.proofs.handover.copy_lengths.Statement.{statement}
 use Rattle.orders.proofs.handover.copy_lengths.Tie as tie
 
 abbrev Inv-loop : tie.InvT-loop
-Inv-loop from n to₀ i₀ to i = (i ≤ n) × Copied from to₀ to i
+Inv-loop from n to₀ i₀ to i = (i ≤ n) × (length to ≡ length to₀) × (to ≡ over (take i from) to₀)
 
 abbrev μ-loop : tie.MeasureT-loop
 μ-loop from n to₀ i₀ to i = n - i
 
 loop-holds : tie.Need-loop-holds Inv-loop μ-loop
-loop-holds c = (search needs, copied-none _ _)
+loop-holds c = (search needs, search needs, refl)
 
 mul-to : tie.Need-mul-to Inv-loop μ-loop
 mul-to c = search needs
@@ -33,13 +37,18 @@ loop-less : tie.Need-loop-less Inv-loop μ-loop
 loop-less c = search needs
 
 loop-again : tie.Need-loop-again Inv-loop μ-loop
-loop-again c = (search needs, copied-more _ _ _ (search needs) (search needs) (c .before .before .loop .inv .1))
+loop-again c =
+    let l = c .before .before .loop in
+    let a = c .before .before .before .args in
+    (search needs, search needs, rw (l .inv .2) (over-next (a .from .now) (a .to .now) (l .i) 0 (search needs) (search needs)))
 
 same-length : tie.Need-same-length Inv-loop μ-loop
-same-length c = c .before .loop .inv .1 .as-long
+same-length c = search needs
 
 returns : tie.Need-returns Inv-loop μ-loop
-returns c = copied-all (c .before .loop .inv .1) (c .before .loop .inv .0) (c .loop-test .left)
+returns c =
+    let l = c .before .loop in
+    let e : l .i ≡ c .before .before .args .n = omega arith in rw e at (l .inv .2)
 
 pub copy-lengths-spec : {M : Type 1} → statement M
 copy-lengths-spec =
