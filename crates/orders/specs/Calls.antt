@@ -1,6 +1,7 @@
 -- The contract of the public call that reads an order list: its answer and what it leaves in lent memory are the defined
 -- ones.
 use mathlib.Core.Path.{_≡_}
+use mathlib.Core.Logic.{_⊎_}
 use mathlib.Core.List.{List}
 use Prim.Native.Nat.{ℕ, _<_}
 use Rattle.lists.specs.Refusals.{shortBuffer}
@@ -28,6 +29,11 @@ pub record Gives (o : ReadOutcome) (left : Lent) (r : Read) : Type 0 where
 -- a call on a file and lent buffers
 abbrev pub ReadsAs : List ℕ → Lent → Lent → Read → Type 0
 ReadsAs file before left r = Gives (readOutcome file before) left r
+
+-- 13's condition in numbers: what was gathered is more than a buffer has room for
+abbrev pub Lacks : Gathered → ℕ → ℕ → ℕ → ℕ → Type 0
+Lacks all bands ls names sizes =
+    (bands < all .bands) ⊎ ((ls < all .codes) ⊎ ((names < all .names) ⊎ (sizes < all .codes)))
 
 -- from what was gathered on: whichever answer for a file that is, the outcome is that answer's
 abbrev pub HandsOver : Gathered → List ℕ → List ℕ → List ℕ → List ℕ → Lent → Lent → Read → Type 0

@@ -2,10 +2,11 @@
 ghost use mathlib.Core.Path.{_≡_};
 ghost use Prim.Native.Nat.{_≤_};
 ghost use lib.ListN.{length, take};
+ghost use Rattle.words.specs.Decides.{Decides};
 ghost use Rattle.lists.specs.Runs.{over};
 ghost use Rattle.entries.specs.Gathering.{Roomy};
 ghost use Rattle.grammar.specs.Answers.{lent};
-ghost use Rattle.orders.specs.Calls.{HandsOver};
+ghost use Rattle.orders.specs.Calls.{Lacks, HandsOver};
 use crate::Read;
 use entries::Gathered;
 use lists::Refusal;
@@ -17,6 +18,22 @@ pub fn refused(number: u8, row: u32) -> Read
         number: number,
         row: row,
     })
+}
+
+// Whether a buffer is too short for what was gathered: they have room for so many bands, lengths, bytes of names and sizes.
+fn lacks(all: Gathered, bands: usize, lengths: usize, names: usize, sizes: usize) -> bool
+    ensures { λ r. ⌜ Decides (Lacks all bands lengths names sizes) r ⌝ }
+{
+    if bands < all.bands {
+        return true;
+    }
+    if lengths < all.codes {
+        return true;
+    }
+    if names < all.names {
+        return true;
+    }
+    sizes < all.codes
 }
 
 // The answer, with the words that were gathered written into the lent buffers where each is long enough.
@@ -41,16 +58,7 @@ pub fn hand_over(
     if number != 0 {
         return refused(number, all.row);
     }
-    if bands.len() < band_count {
-        return refused(lists::SHORT_BUFFER, 0);
-    }
-    if lengths.len() < codes {
-        return refused(lists::SHORT_BUFFER, 0);
-    }
-    if names.len() < name_count {
-        return refused(lists::SHORT_BUFFER, 0);
-    }
-    if sizes.len() < codes {
+    if lacks(all, bands.len(), lengths.len(), names.len(), sizes.len()) {
         return refused(lists::SHORT_BUFFER, 0);
     }
     words::put_word(&code_run[..band_count], bands, 0);
