@@ -16,7 +16,7 @@ pub struct Corpus {
     given: Vec<Case>,
     /// Cases of classes that were new, by what came of them.
     found: BTreeMap<Outcome, Vec<Case>>,
-    seen: BTreeSet<Class>,
+    pub seen: BTreeSet<Class>,
 }
 
 impl Corpus {
@@ -73,10 +73,5 @@ impl Corpus {
             true => cases.push(case),
             false => cases[chance.below(MOST_CASES)] = case,
         }
-    }
-
-    /// How many classes were seen.
-    pub fn classes(&self) -> usize {
-        self.seen.len()
     }
 }

@@ -1,5 +1,6 @@
 //! The counts of a run.
 
+use crate::classes::Class;
 use crate::options::Options;
 use reference::drive::outcomes::{outcome_of, Outcome};
 use reference::drive::programs::Program;
@@ -9,7 +10,7 @@ use std::time::Duration;
 #[derive(Default)]
 pub struct Tally {
     given: BTreeMap<(Outcome, Program), u64>,
-    pub classes: usize,
+    pub classes: BTreeSet<Class>,
 }
 
 impl Tally {
@@ -24,7 +25,7 @@ impl Tally {
         for (key, count) in other.given {
             *self.given.entry(key).or_default() += count;
         }
-        self.classes += other.classes;
+        self.classes.extend(other.classes);
         self
     }
 
@@ -43,7 +44,7 @@ impl Tally {
             "{:.1} minutes, {} runs, {} classes of outcomes, seed {}\n",
             time.as_secs_f64() / 60.0,
             self.count(|_| true),
-            self.classes,
+            self.classes.len(),
             options.seed
         );
         text += &row("", programs.iter().map(Program::to_string));

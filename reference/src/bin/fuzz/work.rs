@@ -38,7 +38,7 @@ pub fn work(
             break;
         }
     }
-    tally.classes = corpus.classes();
+    tally.classes = corpus.seen;
     Ok((tally, None))
 }
 
