@@ -40,7 +40,7 @@ pub fn make_codes(letter: u8, k: usize, x: usize, bands: &mut [u8], lengths: &mu
         bands: 0,
     };
     let due = f.due;
-    for i in 0..due {
+    for _ in 0..due {
         c = make_code(f, c, bands, lengths);
     }
     c

@@ -6,11 +6,14 @@ use crate::draws::next;
 use crate::total::look_number;
 use crate::total::minus;
 use crate::total::plus;
+use ribbons::MOST_BANDS;
+use ribbons::MOST_CODES;
 
-// the chains' word stands behind all bands, and the codes' starts behind their lengths
-pub const WORD: usize = 8192;
+// the chains' word stands behind all bands
+pub const WORD: usize = MOST_BANDS;
 
-pub const STARTS: usize = 128;
+// the codes' starts stand behind their lengths
+pub const STARTS: usize = MOST_CODES;
 
 // A list in the making: the state of the draws, the family's first letter, how many codes are due, the letters that bands are
 // drawn from, and the length of the word that codes are parts of.
@@ -67,9 +70,9 @@ fn chains(x: usize, row: &mut [u8]) -> Family {
 // The largest lists, of other letters from case to case.
 fn full(x: usize, k: usize) -> Family {
     match k % 3 {
-        0 => wordless(x, b'f', 128, 2),
-        1 => wordless(x, b'f', 128, 26),
-        _ => wordless(x, b'f', 128, RARE),
+        0 => wordless(x, b'f', MOST_CODES, 2),
+        1 => wordless(x, b'f', MOST_CODES, 26),
+        _ => wordless(x, b'f', MOST_CODES, RARE),
     }
 }
 
@@ -96,7 +99,7 @@ fn fresh(x: usize, n: usize) -> Recipe {
     }
 }
 
-// A palindrome, in one case out of four a code like any other.
+// A palindrome, but for one in four.
 fn palindrome(x: usize, at: usize) -> Recipe {
     let y = next(x);
     let n = 1 + y % 9;

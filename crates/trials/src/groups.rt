@@ -1,20 +1,22 @@
 // The file of cases, line by line: its groups, the checksums over their cases, and what is printed of them.
-use crate::fields::field;
-use crate::fields::number_in;
-use crate::lines::file_line;
-use crate::lines::list_line;
-use crate::lines::pair_line;
+use crate::case_lines::file_line;
+use crate::case_lines::list_line;
+use crate::case_lines::pair_line;
+use crate::line_fields::field;
+use crate::line_fields::number_in;
 use crate::making::make_case;
 use crate::tally::Tally;
 use crate::tally::feed;
+use crate::tally::say;
+use crate::tally::say_number;
+use crate::tally::say_word;
 use crate::total::find;
 use crate::total::look;
 use crate::total::part;
 use crate::total::plus;
-use libc::STDOUT_FILENO;
 use std::num::wrapping_add_u64;
 
-// Which texts are printed, `a` for all, `f` for the first of each group; whether the next one is; the title's part of the
+// Which texts are printed, `a` for all, `f` for the first of each group, else none; whether the next one is; the title's part of the
 // file, at 0 before the first group; the group's cases and their checksum; all cases, and the checksum over the groups'.
 struct Run {
     mode: u8,
@@ -27,14 +29,15 @@ struct Run {
     sums: u64,
 }
 
-// A line of a title, a count and a checksum.
+// A tally for what is printed beside the texts of cases, and counts in no checksum.
+fn printed() -> Tally {
+    Tally { sum: 0, loud: true }
+}
+
+// A line of a title, a count and a checksum is printed.
 fn show_line(title: &[u8], count: u64, sum: u64) {
-    io::write_all(STDOUT_FILENO, title);
-    io::write_all(STDOUT_FILENO, b",");
-    io::print_decimal(STDOUT_FILENO, count);
-    io::write_all(STDOUT_FILENO, b",");
-    io::print_decimal(STDOUT_FILENO, sum);
-    io::write_all(STDOUT_FILENO, b"\n");
+    let t = say(say_word(printed(), title), b',');
+    say(say_number(say(say_number(t, count), b','), sum), b'\n');
 }
 
 // The group ends, if there is one; the answer is the checksum over the groups'.
@@ -53,13 +56,20 @@ fn end_group(r: Run, file: &[u8]) -> u64 {
     t.sum
 }
 
+// Whether texts are printed.
+fn shows(mode: u8) -> bool {
+    match mode {
+        b'a' | b'f' => true,
+        _ => false,
+    }
+}
+
 // A group begins with a line; that is printed where texts are.
 fn begin_group(r: Run, file: &[u8], from: usize, to: usize) -> Run {
     let sums = end_group(r, file);
-    let loud = r.mode != 0;
+    let loud = shows(r.mode);
     if loud {
-        io::write_all(STDOUT_FILENO, part(file, from, to));
-        io::write_all(STDOUT_FILENO, b"\n");
+        say(say_word(printed(), part(file, from, to)), b'\n');
     }
     Run {
         mode: r.mode,
@@ -135,7 +145,7 @@ pub fn run_lines(file: &[u8], mode: u8) {
         sums: 0,
     };
     let mut at = 0;
-    for i in 0..file.len() {
+    for _ in 0..file.len() {
         let to = find(file, at, b'\n');
         r = run_line(r, file, at, to);
         at = plus(to, 1);

@@ -1,13 +1,10 @@
 // Lent buffers of bytes and of numbers: what they hold before a call, and what is told of them after it.
-ghost use Prim.Native.Nat.{_≤_};
-use crate::plain::begin_line;
+use crate::forms::one_if;
+use crate::forms::say_form;
 use crate::plain::say_bytes;
 use crate::plain::say_numbers;
 use crate::tally::Tally;
 use crate::tally::feed;
-use crate::tally::say;
-use crate::tally::say_number;
-use crate::tally::say_word;
 use crate::total::front;
 use crate::total::front_numbers;
 use crate::total::look;
@@ -20,17 +17,6 @@ use crate::total::put_number;
 pub const MOST_BYTES: usize = 16640;
 
 pub const MOST_NUMBERS: usize = 160;
-
-// The room of a number that a case names: 0 where there is no such number, and no more than the most.
-pub fn room(rooms: &[u16], i: usize, most: usize) -> usize
-    ensures { λ r. ⌜ r ≤ most ⌝ }
-{
-    let n = look_number(rooms, i) as usize;
-    if most < n {
-        return most;
-    }
-    n
-}
 
 // What byte i of a buffer holds before a call.
 fn letter(i: usize) -> u8 {
@@ -50,71 +36,88 @@ pub fn fill_bytes(buffer: &mut [u8]) {
 }
 
 // A buffer of numbers is.
-pub fn fill_numbers(buffer: &mut [u16]) {
+fn fill_numbers(buffer: &mut [u16]) {
     for i in 0..buffer.len() {
         put_number(buffer, i, mark(i));
     }
 }
 
-// One, where something holds.
-pub fn one_if(holds: bool) -> usize {
-    if holds {
-        return 1;
-    }
-    0
+// The room of a number that a case names.
+pub fn room(rooms: &[u16], i: usize) -> usize {
+    look_number(rooms, i) as usize
 }
 
-// How many bytes from an index on hold what they held before.
-fn kept_bytes(s: &[u8], from: usize) -> usize {
-    let mut kept = 0;
+// The bytes of a buffer that a case lends, ready for a call; all of them where there are fewer.
+pub fn lend_bytes(buffer: &mut [u8], n: usize) -> &mut [u8] {
+    fill_bytes(buffer);
+    if n <= buffer.len() {
+        return &mut buffer[0..n];
+    }
+    &mut buffer[0..]
+}
+
+// The numbers.
+pub fn lend_numbers(buffer: &mut [u16], n: usize) -> &mut [u16] {
+    fill_numbers(buffer);
+    if n <= buffer.len() {
+        return &mut buffer[0..n];
+    }
+    &mut buffer[0..]
+}
+
+// What stands past a result: it is fed, and what holds what it held before is counted.
+pub struct Rest {
+    pub tally: Tally,
+    pub kept: usize,
+}
+
+// One more, and what it held before.
+fn pass(r: Rest, n: u64, before: u64) -> Rest {
+    let t = r.tally;
+    Rest {
+        tally: feed(t, n),
+        kept: plus(r.kept, one_if(n == before)),
+    }
+}
+
+// The bytes of a buffer from an index on.
+fn rest_of_bytes(t: Tally, s: &[u8], from: usize) -> Rest {
+    let mut rest = Rest { tally: t, kept: 0 };
     for i in from..s.len() {
-        kept = plus(kept, one_if(look(s, i) == letter(i)));
+        rest = pass(rest, look(s, i) as u64, letter(i) as u64);
     }
-    kept
+    rest
 }
 
-// How many numbers do.
-fn kept_numbers(s: &[u16], from: usize) -> usize {
-    let mut kept = 0;
+// The numbers.
+fn rest_of_numbers(t: Tally, s: &[u16], from: usize) -> Rest {
+    let mut rest = Rest { tally: t, kept: 0 };
     for i in from..s.len() {
-        kept = plus(kept, one_if(look_number(s, i) as usize == mark(i)));
+        rest = pass(rest, look_number(s, i) as u64, mark(i) as u64);
     }
-    kept
+    rest
 }
 
-// The bytes from an index on are fed.
-fn feed_bytes(t: Tally, s: &[u8], from: usize) -> Tally {
-    let mut told = t;
-    for i in from..s.len() {
-        told = feed(told, look(s, i) as u64);
-    }
-    told
+// The end of the line of a buffer.
+pub fn say_kept(t: Tally, r: Rest) -> Tally {
+    say_form(t, b",kept,#\n", r.kept as u64, 0, 0)
 }
 
-// The numbers are.
-fn feed_numbers(t: Tally, s: &[u16], from: usize) -> Tally {
-    let mut told = t;
-    for i in from..s.len() {
-        told = feed(told, look_number(s, i) as u64);
-    }
-    told
-}
-
-// The end of a line about a buffer: how much of it past the result is as before.
-pub fn say_kept(t: Tally, kept: usize) -> Tally {
-    say(say_number(say_word(t, b",kept,"), kept as u64), b'\n')
-}
-
-// What is told of a buffer of bytes of which the first ones, so many, are the result.
-pub fn tell_bytes(t: Tally, label: &[u8], buffer: &[u8], result: usize) -> Tally {
-    let begun = begin_line(t, label, buffer.len());
+// What is told of a buffer of bytes of which the first ones, so many, are the result. The rest is passed twice: what is
+// counted is said before any of it is fed.
+pub fn tell_bytes(t: Tally, form: &[u8], buffer: &[u8], result: usize) -> Tally {
+    let begun = say_form(t, form, buffer.len() as u64, 0, 0);
     let said = say_bytes(begun, front(buffer, result));
-    feed_bytes(say_kept(said, kept_bytes(buffer, result)), buffer, result)
+    let counted = say_kept(said, rest_of_bytes(said, buffer, result));
+    let rest = rest_of_bytes(counted, buffer, result);
+    rest.tally
 }
 
 // What is told of a buffer of numbers.
-pub fn tell_numbers(t: Tally, label: &[u8], buffer: &[u16], result: usize) -> Tally {
-    let begun = begin_line(t, label, buffer.len());
+pub fn tell_numbers(t: Tally, form: &[u8], buffer: &[u16], result: usize) -> Tally {
+    let begun = say_form(t, form, buffer.len() as u64, 0, 0);
     let said = say_numbers(begun, front_numbers(buffer, result));
-    feed_numbers(say_kept(said, kept_numbers(buffer, result)), buffer, result)
+    let counted = say_kept(said, rest_of_numbers(said, buffer, result));
+    let rest = rest_of_numbers(counted, buffer, result);
+    rest.tally
 }

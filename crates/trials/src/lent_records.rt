@@ -1,13 +1,12 @@
 // Lent place records: what they hold before a call, and what is told of them after it.
-use crate::lent::one_if;
+use crate::forms::one_if;
+use crate::forms::say_form;
+use crate::lent::Rest;
 use crate::lent::say_kept;
-use crate::plain::begin_line;
 use crate::recorded::MOST_RECORDS;
 use crate::tally::Tally;
 use crate::tally::feed;
 use crate::tally::say;
-use crate::tally::say_number;
-use crate::tally::say_word;
 use crate::total::plus;
 use ribbons::MOST_CODES;
 use ribbons::Place;
@@ -58,118 +57,100 @@ pub fn widened(records: [Place; MOST_CODES]) -> [Place; MOST_RECORDS] {
     places
 }
 
-// The record at an index; past the end one in which nothing is set.
-fn record_at(places: [Place; MOST_RECORDS], i: usize) -> Place {
+// A record as numbers: its code, 0 for a way as given or 1 for a turned one, its start.
+struct Numbers {
+    pub code: u64,
+    pub turned: u64,
+    pub start: u64,
+}
+
+// The numbers of the record at an index; past the end those of one in which nothing is set.
+fn record_at(places: [Place; MOST_RECORDS], i: usize) -> Numbers {
+    let mut place = blank();
     if i < MOST_RECORDS {
-        return places[i];
+        place = places[i];
     }
-    blank()
-}
-
-// 0 for a way as given, 1 for a turned one.
-fn turned_of(way: Way) -> u32 {
+    let code = place.code as u64;
+    let way = place.way;
     match way {
-        Way::Given(_) => 0,
-        Way::Turned(_) => 1,
+        Way::Given(n) => Numbers {
+            code,
+            turned: 0,
+            start: n as u64,
+        },
+        Way::Turned(n) => Numbers {
+            code,
+            turned: 1,
+            start: n as u64,
+        },
     }
-}
-
-// The start of a way.
-fn start_of(way: Way) -> u32 {
-    match way {
-        Way::Given(start) => start,
-        Way::Turned(start) => start,
-    }
-}
-
-// Whether two ways hold the same.
-fn same_way(a: Way, b: Way) -> bool {
-    if turned_of(a) == turned_of(b) {
-        return start_of(a) == start_of(b);
-    }
-    false
-}
-
-// Whether two records do.
-fn same(a: Place, b: Place) -> bool {
-    let left = a.way;
-    let right = b.way;
-    if a.code == b.code {
-        return same_way(left, right);
-    }
-    false
 }
 
 // A record is said.
-fn say_record(t: Tally, p: Place) -> Tally {
-    let coded = say_number(t, p.code as u64);
-    let way = p.way;
-    match way {
-        Way::Given(start) => say_number(say_word(coded, b" given "), start as u64),
-        Way::Turned(start) => say_number(say_word(coded, b" turned "), start as u64),
+fn say_record(t: Tally, p: Numbers) -> Tally {
+    if p.turned == 0 {
+        return say_form(t, b"# given #", p.code, p.start, 0);
     }
+    say_form(t, b"# turned #", p.code, p.start, 0)
 }
 
-// A record, with a semicolon before it unless it is the first.
-fn say_next(t: Tally, i: usize, p: Place) -> Tally {
-    if i == 0 {
-        return say_record(t, p);
-    }
-    say_record(say(t, b';'), p)
-}
-
-// The first records, so many.
+// The first records, so many, with a semicolon between.
 fn say_records(t: Tally, places: [Place; MOST_RECORDS], n: usize) -> Tally {
-    let mut told = t;
-    for i in 0..n {
-        told = say_next(told, i, record_at(places, i));
+    if n == 0 {
+        return t;
+    }
+    let mut told = say_record(t, record_at(places, 0));
+    for i in 1..n {
+        told = say_record(say(told, b';'), record_at(places, i));
     }
     told
 }
 
-// How many records from an index to another hold what they held before.
-fn kept_records(
+// Whether two records hold the same.
+fn same(a: Numbers, b: Numbers) -> bool {
+    if a.code == b.code {
+        if a.turned == b.turned {
+            return a.start == b.start;
+        }
+    }
+    false
+}
+
+// One more record past the result, and what it held before.
+fn pass(r: Rest, p: Numbers, before: Numbers) -> Rest {
+    let t = r.tally;
+    Rest {
+        tally: feed(feed(feed(t, p.code), p.turned), p.start),
+        kept: plus(r.kept, one_if(same(p, before))),
+    }
+}
+
+// The records from an index to another.
+fn rest_of_records(
+    t: Tally,
     before: [Place; MOST_RECORDS],
     after: [Place; MOST_RECORDS],
     from: usize,
     to: usize,
-) -> usize {
-    let mut kept = 0;
+) -> Rest {
+    let mut rest = Rest { tally: t, kept: 0 };
     for i in from..to {
-        kept = plus(
-            kept,
-            one_if(same(record_at(before, i), record_at(after, i))),
-        );
+        rest = pass(rest, record_at(after, i), record_at(before, i));
     }
-    kept
-}
-
-// A record is fed.
-fn feed_record(t: Tally, p: Place) -> Tally {
-    let way = p.way;
-    let coded = feed(t, p.code as u64);
-    feed(feed(coded, turned_of(way) as u64), start_of(way) as u64)
-}
-
-// The records from an index to another are fed.
-fn feed_records(t: Tally, places: [Place; MOST_RECORDS], from: usize, to: usize) -> Tally {
-    let mut told = t;
-    for i in from..to {
-        told = feed_record(told, record_at(places, i));
-    }
-    told
+    rest
 }
 
 // What is told of so many lent records of which the first ones are the result.
 pub fn tell_records(
     t: Tally,
-    label: &[u8],
+    form: &[u8],
     before: [Place; MOST_RECORDS],
     after: [Place; MOST_RECORDS],
     room: usize,
     result: usize,
 ) -> Tally {
-    let said = say_records(begin_line(t, label, room), after, result);
-    let kept = kept_records(before, after, result, room);
-    feed_records(say_kept(said, kept), after, result, room)
+    let said = say_records(say_form(t, form, room as u64, 0, 0), after, result);
+    let counted = say_kept(said, rest_of_records(said, before, after, result, room));
+    let rest = rest_of_records(counted, before, after, result, room);
+    rest.tally
 }

@@ -1,10 +1,11 @@
 // A case of a list that other code hands over: laying it out, checking a supplied ribbon in three ways, and its sheet.
 ghost use Prim.Native.Nat.{_≤_};
-use crate::answers::end_with;
 use crate::answers::say_checked;
-use crate::answers::say_refused;
+use crate::answers::say_laid;
+use crate::answers::say_wrote;
+use crate::forms::say_form;
 use crate::lent::MOST_BYTES;
-use crate::lent::fill_bytes;
+use crate::lent::lend_bytes;
 use crate::lent::room;
 use crate::lent::tell_bytes;
 use crate::lent_records::blank_records;
@@ -12,16 +13,30 @@ use crate::lent_records::marked_records;
 use crate::lent_records::tell_records;
 use crate::lent_records::widened;
 use crate::plain::bytes_line;
-use crate::plain::case_line;
 use crate::plain::numbers_line;
 use crate::recorded::MOST_RECORDS;
 use crate::recorded::check_front;
 use crate::tally::Tally;
-use crate::tally::say_word;
 use ribbons::Checked;
 use ribbons::Laid;
 use ribbons::MOST_CODES;
 use ribbons::Wrote;
+
+// The list, its names and the supplied ribbon.
+fn say_list(
+    t: Tally,
+    bands: &[u8],
+    lengths: &[u16],
+    names: &[u8],
+    sizes: &[u16],
+    ribbon: &[u8],
+) -> Tally {
+    let mut told = bytes_line(t, b"codes,#,", bands);
+    told = numbers_line(told, b"lengths,#,", lengths);
+    told = bytes_line(told, b"names,#,", names);
+    told = numbers_line(told, b"sizes,#,", sizes);
+    bytes_line(told, b"supplied,#,", ribbon)
+}
 
 // The bands that are laid out.
 fn laid_bands(laid: Laid) -> usize {
@@ -31,22 +46,10 @@ fn laid_bands(laid: Laid) -> usize {
     }
 }
 
-// The line of what laying out answers.
-fn say_laid(t: Tally, laid: Laid) -> Tally {
-    let begun = say_word(t, b"lay");
-    match laid {
-        Laid::Refused(r) => say_refused(begun, r),
-        Laid::Ribbon { bands, saved } => {
-            end_with(say_word(begun, b",ribbon,"), bands as u64, saved as u64)
-        }
-    }
-}
-
 // The list laid out into a lent buffer.
 fn tell_laid(t: Tally, bands: &[u8], lengths: &[u16], ribbon: &mut [u8]) -> Tally {
-    fill_bytes(ribbon);
     let laid = ribbons::lay_ribbon(bands, lengths, ribbon);
-    tell_bytes(say_laid(t, laid), b"ribbon", ribbon, laid_bands(laid))
+    tell_bytes(say_laid(t, laid), b"ribbon,#,", ribbon, laid_bands(laid))
 }
 
 // How many records are due: one for each code where all are held.
@@ -57,6 +60,17 @@ fn records_due(answer: Checked, codes: usize) -> usize {
     }
 }
 
+// The room for records that a case names, or the most.
+fn records_room(rooms: &[u16]) -> usize
+    ensures { λ r. ⌜ r ≤ 130 ⌝ }
+{
+    let n = room(rooms, 1);
+    if n < MOST_RECORDS {
+        return n;
+    }
+    MOST_RECORDS
+}
+
 // The ribbon checked into so many lent records.
 fn tell_checked(t: Tally, bands: &[u8], lengths: &[u16], ribbon: &[u8], room: usize) -> Tally
     requires { ⌜ room ≤ 130 ⌝ }
@@ -65,15 +79,9 @@ fn tell_checked(t: Tally, bands: &[u8], lengths: &[u16], ribbon: &[u8], room: us
     let recorded = check_front(bands, lengths, ribbon, before, room);
     let answer = recorded.answer;
     let after = recorded.places;
+    let said = say_checked(t, b"check", answer);
     let due = records_due(answer, lengths.len());
-    tell_records(
-        say_checked(t, b"check", answer),
-        b"records",
-        before,
-        after,
-        room,
-        due,
-    )
+    tell_records(said, b"records,#,", before, after, room, due)
 }
 
 // The ribbon checked for so many records, which are handed back by value.
@@ -84,7 +92,7 @@ fn tell_places(t: Tally, bands: &[u8], lengths: &[u16], ribbon: &[u8], room: usi
     let said = say_checked(t, b"places", answer);
     tell_records(
         said,
-        b"found",
+        b"found,#,",
         blank_records(),
         widened(records),
         MOST_CODES,
@@ -100,17 +108,6 @@ fn sheet_bytes(wrote: Wrote) -> usize {
     }
 }
 
-// The line of what writing the sheet answers.
-fn say_wrote(t: Tally, wrote: Wrote) -> Tally {
-    let begun = say_word(t, b"sheet");
-    match wrote {
-        Wrote::Refused(r) => say_refused(begun, r),
-        Wrote::Sheet { bytes, saved } => {
-            end_with(say_word(begun, b",written,"), bytes as u64, saved as u64)
-        }
-    }
-}
-
 // The sheet written into a lent buffer.
 fn tell_sheet(
     t: Tally,
@@ -120,31 +117,16 @@ fn tell_sheet(
     sizes: &[u16],
     rows: &mut [u8],
 ) -> Tally {
-    fill_bytes(rows);
     let wrote = ribbons::write_sheet(bands, lengths, names, sizes, rows);
-    tell_bytes(say_wrote(t, wrote), b"rows", rows, sheet_bytes(wrote))
-}
-
-// The list, its names and the supplied ribbon.
-fn say_list(
-    t: Tally,
-    bands: &[u8],
-    lengths: &[u16],
-    names: &[u8],
-    sizes: &[u16],
-    ribbon: &[u8],
-) -> Tally {
-    let listed = numbers_line(bytes_line(t, b"codes", bands), b"lengths", lengths);
-    let named = numbers_line(bytes_line(listed, b"names", names), b"sizes", sizes);
-    bytes_line(named, b"supplied", ribbon)
+    tell_bytes(say_wrote(t, wrote), b"rows,#,", rows, sheet_bytes(wrote))
 }
 
 // The ribbon checked in three ways.
 fn tell_checks(t: Tally, bands: &[u8], lengths: &[u16], ribbon: &[u8], rooms: &[u16]) -> Tally {
-    let n = room(rooms, 1, MOST_RECORDS);
-    let checked = tell_checked(t, bands, lengths, ribbon, n);
-    let found = tell_places(checked, bands, lengths, ribbon, n);
-    say_checked(found, b"only", ribbons::check_only(bands, lengths, ribbon))
+    let n = records_room(rooms);
+    let mut told = tell_checked(t, bands, lengths, ribbon, n);
+    told = tell_places(told, bands, lengths, ribbon, n);
+    say_checked(told, b"only", ribbons::check_only(bands, lengths, ribbon))
 }
 
 // Runs case k and tells it.
@@ -158,19 +140,12 @@ pub fn run_list(
     ribbon: &[u8],
     rooms: &[u16],
 ) -> Tally {
-    let given = say_list(
-        case_line(t, k, b"list"),
-        bands,
-        lengths,
-        names,
-        sizes,
-        ribbon,
-    );
+    let mut told = say_form(t, b"case,#,list\n", k, 0, 0);
+    told = say_list(told, bands, lengths, names, sizes, ribbon);
     let mut laid = [0u8; MOST_BYTES];
-    let n = room(rooms, 0, MOST_BYTES);
-    let told = tell_laid(given, bands, lengths, &mut laid[0..n]);
-    let checked = tell_checks(told, bands, lengths, ribbon, rooms);
+    told = tell_laid(told, bands, lengths, lend_bytes(&mut laid, room(rooms, 0)));
+    told = tell_checks(told, bands, lengths, ribbon, rooms);
     let mut rows = [0u8; MOST_BYTES];
-    let m = room(rooms, 2, MOST_BYTES);
-    tell_sheet(checked, bands, lengths, names, sizes, &mut rows[0..m])
+    let lent = lend_bytes(&mut rows, room(rooms, 2));
+    tell_sheet(told, bands, lengths, names, sizes, lent)
 }

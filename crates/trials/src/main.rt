@@ -3,15 +3,16 @@
 // printed too, `all` those of all cases.
 mod answers; // of calls, said
 mod bands; // drawn and copied
+mod case_lines; // cases written out
 mod codes; // of a generated list
 mod draws;
 mod families; // of generated lists
-mod fields; // of a line
 mod file_case;
+mod forms; // of lines
 mod groups; // the file of cases, line by line
 mod lent; // buffers before and after a call
 mod lent_records; // place records before and after a call
-mod lines; // cases written out
+mod line_fields; // of a line
 mod list_case;
 mod making; // a generated case
 mod names; // of a generated list
@@ -27,21 +28,18 @@ use groups::run_lines;
 use libc::STDIN_FILENO;
 use libc::STDOUT_FILENO;
 
-const MOST_BYTES: usize = 65536;
+// the most bytes of a file of cases
+const ROOM: usize = 65536;
 
-// The first letter of the first argument where that asks for texts, else 0.
+// The first letter of the first argument, which tells what texts are printed; 0 if there is none.
 fn mode() -> u8 {
     let mut argument = io::buffer();
     os::arg(1, &mut argument);
-    match argument[0] {
-        b'a' => b'a',
-        b'f' => b'f',
-        _ => 0,
-    }
+    argument[0]
 }
 
 fn main() {
-    let mut file = [0u8; MOST_BYTES];
+    let mut file = [0u8; ROOM];
     let n = files::read_whole(STDIN_FILENO, &mut file);
     io::write_all(STDOUT_FILENO, b"group,cases,checksum\n");
     run_lines(&file[..n], mode());

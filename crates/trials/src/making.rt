@@ -8,10 +8,22 @@ use crate::tally::Tally;
 use crate::total::front;
 use crate::total::front_numbers;
 use ribbons::Laid;
+use ribbons::MOST_BANDS;
+use ribbons::MOST_CODES;
+use ribbons::MOST_NAME_BYTES;
 use ribbons::MOST_SHEET_BYTES;
 use ribbons::Wrote;
 use ribbons::lay_ribbon;
 use ribbons::write_sheet;
+
+// all bands, and the chains' word behind them
+const BANDS_ROOM: usize = MOST_BANDS + 128;
+
+// the lengths of all codes, and their starts behind them
+const LENGTHS_ROOM: usize = 2 * MOST_CODES;
+
+// a ribbon, and its turned form behind it
+const RIBBON_ROOM: usize = 2 * MOST_BANDS;
 
 // What a case leaves: the checksum, and the state of the draws.
 pub struct Made {
@@ -46,8 +58,7 @@ fn run_named(
     names: &[u8],
     sizes: &[u16],
 ) -> Made {
-    // room for a ribbon and its turned form
-    let mut ribbon = [0u8; 16640];
+    let mut ribbon = [0u8; RIBBON_ROOM];
     let n = laid(bands, lengths, &mut ribbon);
     let s = supply(x, &mut ribbon, n);
     let rooms = draw_rooms(
@@ -70,13 +81,13 @@ fn run_named(
     Made { tally, x: rooms.x }
 }
 
-// Case number `of` of a line of the family of this letter, as case k of its group.
-pub fn make_case(t: Tally, k: u64, letter: u8, of: usize, x: usize) -> Made {
-    let mut bands = [0u8; 8320];
-    let mut lengths = [0u16; 256];
-    let c = make_codes(letter, of, x, &mut bands, &mut lengths);
-    let mut names = [0u8; 3072];
-    let mut sizes = [0u16; 128];
+// Case i of a line of the family of this letter, as case k of its group.
+pub fn make_case(t: Tally, k: u64, letter: u8, i: usize, x: usize) -> Made {
+    let mut bands = [0u8; BANDS_ROOM];
+    let mut lengths = [0u16; LENGTHS_ROOM];
+    let c = make_codes(letter, i, x, &mut bands, &mut lengths);
+    let mut names = [0u8; MOST_NAME_BYTES];
+    let mut sizes = [0u16; MOST_CODES];
     let n = make_names(c.x, c.codes, &mut names, &mut sizes);
     run_named(
         t,

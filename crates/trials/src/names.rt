@@ -2,8 +2,6 @@
 use crate::draws::next;
 use crate::total::fill;
 use crate::total::minus;
-use crate::total::plus;
-use crate::total::put;
 use crate::total::put_number;
 
 // The bytes of the names that stand, and the state of the draws.
@@ -14,9 +12,8 @@ pub struct Names {
 
 // The two letters of a code's number, from an index on; the answer is the index behind.
 fn put_letters(names: &mut [u8], at: usize, i: usize) -> usize {
-    put(names, at, b'a' + (i / 26 % 26) as u8);
-    put(names, plus(at, 1), b'a' + (i % 26) as u8);
-    plus(at, 2)
+    let second = fill(names, at, 1, b'a' + (i / 26 % 26) as u8);
+    fill(names, second, 1, b'a' + (i % 26) as u8)
 }
 
 // What some names have behind their letters.

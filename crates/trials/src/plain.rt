@@ -1,8 +1,8 @@
-// Bytes and numbers of inputs and results, said, and the lines that have a label, a count and such bytes or numbers.
+// Bytes and numbers of inputs and results, said, and the lines of those that go into a call.
+use crate::forms::say_form;
 use crate::tally::Tally;
 use crate::tally::say;
 use crate::tally::say_number;
-use crate::tally::say_word;
 use crate::total::look;
 use crate::total::look_number;
 
@@ -14,21 +14,13 @@ fn digit(n: u8) -> u8 {
     b'A' + (n - 10) % 6
 }
 
-// A byte that is not printed as itself: by a letter, or by its two digits.
-fn say_escaped(t: Tally, b: u8) -> Tally {
-    let begun = say(t, b'\\');
-    match b {
-        b'\r' => say(begun, b'r'),
-        b'\n' => say(begun, b'n'),
-        _ => say(say(begun, digit(b / 16)), digit(b % 16)),
-    }
-}
-
-// A byte is said plainly.
+// A byte is said plainly: as itself, or behind a `\` by a letter or two digits.
 fn say_plain(t: Tally, b: u8) -> Tally {
     match b {
+        b'\r' => say(say(t, b'\\'), b'r'),
+        b'\n' => say(say(t, b'\\'), b'n'),
         32..=126 => say(t, b),
-        _ => say_escaped(t, b),
+        _ => say(say(say(t, b'\\'), digit(b / 16)), digit(b % 16)),
     }
 }
 
@@ -41,41 +33,27 @@ pub fn say_bytes(t: Tally, s: &[u8]) -> Tally {
     told
 }
 
-// A number, with a space before it unless it is the first.
-fn say_next(t: Tally, i: usize, n: u16) -> Tally {
-    if i == 0 {
-        return say_number(t, n as u64);
-    }
-    say_number(say(t, b' '), n as u64)
-}
-
 // Numbers are said with one space between.
 pub fn say_numbers(t: Tally, s: &[u16]) -> Tally {
-    let mut told = t;
-    for i in 0..s.len() {
-        told = say_next(told, i, look_number(s, i));
+    if s.len() == 0 {
+        return t;
+    }
+    let mut told = say_number(t, look_number(s, 0) as u64);
+    for i in 1..s.len() {
+        told = say_number(say(told, b' '), look_number(s, i) as u64);
     }
     told
 }
 
-// A label and a count, each with a comma behind it.
-pub fn begin_line(t: Tally, label: &[u8], count: usize) -> Tally {
-    let labelled = say(say_word(t, label), b',');
-    say(say_number(labelled, count as u64), b',')
-}
-
-// The line of some bytes.
-pub fn bytes_line(t: Tally, label: &[u8], s: &[u8]) -> Tally {
-    say(say_bytes(begin_line(t, label, s.len()), s), b'\n')
+// The line of some bytes; its form begins it and has their count.
+pub fn bytes_line(t: Tally, form: &[u8], s: &[u8]) -> Tally {
+    say(say_bytes(say_form(t, form, s.len() as u64, 0, 0), s), b'\n')
 }
 
 // The line of some numbers.
-pub fn numbers_line(t: Tally, label: &[u8], s: &[u16]) -> Tally {
-    say(say_numbers(begin_line(t, label, s.len()), s), b'\n')
-}
-
-// The first line of the case of a number.
-pub fn case_line(t: Tally, k: u64, kind: &[u8]) -> Tally {
-    let begun = say_number(say_word(t, b"case,"), k);
-    say(say_word(say(begun, b','), kind), b'\n')
+pub fn numbers_line(t: Tally, form: &[u8], s: &[u16]) -> Tally {
+    say(
+        say_numbers(say_form(t, form, s.len() as u64, 0, 0), s),
+        b'\n',
+    )
 }

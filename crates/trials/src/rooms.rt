@@ -2,6 +2,8 @@
 use crate::draws::next;
 use crate::total::minus;
 use crate::total::plus;
+use ribbons::MOST_BANDS;
+use ribbons::MOST_CODES;
 
 // The rooms for ribbon, records and sheet, and the state of the draws.
 pub struct Rooms {
@@ -26,8 +28,8 @@ pub fn draw_rooms(x: usize, bands: usize, codes: usize, sheet: usize) -> Rooms {
     let b = next(a);
     let c = next(b);
     let numbers = [
-        room(a % 4, bands, 3, 8192),
-        room(b % 4, codes, 2, 128),
+        room(a % 4, bands, 3, MOST_BANDS),
+        room(b % 4, codes, 2, MOST_CODES),
         room(c % 3, sheet, 5, 0),
     ];
     Rooms { x: c, numbers }

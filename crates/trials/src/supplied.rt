@@ -11,7 +11,7 @@ pub struct Supplied {
     pub length: usize,
 }
 
-// A ribbon is turned, by a copy behind it.
+// A ribbon is turned, by way of a copy behind it.
 fn turn(ribbon: &mut [u8], n: usize) {
     copy(ribbon, 0, n, true, n);
     copy(ribbon, n, n, false, 0);

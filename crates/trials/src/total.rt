@@ -1,5 +1,6 @@
 // Looks, stores and parts of slices for every index, so that callers show nothing: past the end a look gives 0, a store does
-// nothing, and a part is empty.
+// nothing, and a part has what there is.
+ghost use Prim.Native.Nat.{_≤_};
 use std::num::wrapping_add_usize;
 
 // The byte at an index.
@@ -32,30 +33,30 @@ pub fn put_number(s: &mut [u16], i: usize, n: usize) {
     }
 }
 
-// The bytes from an index to another.
+// The lesser of two numbers.
+pub fn least(a: usize, b: usize) -> usize
+    ensures { λ r. ⌜ (r ≤ a) × (r ≤ b) ⌝ }
+{
+    if a < b { a } else { b }
+}
+
+// The bytes from an index to another, or what there is of them.
 pub fn part(s: &[u8], from: usize, to: usize) -> &[u8] {
-    if to <= s.len() {
-        if from <= to {
-            return &s[from..to];
-        }
-    }
-    &s[0..0]
+    let end = least(to, s.len());
+    let start = least(from, end);
+    &s[start..end]
 }
 
 // The first n bytes, or all where there are fewer.
 pub fn front(s: &[u8], n: usize) -> &[u8] {
-    if n <= s.len() {
-        return &s[0..n];
-    }
-    &s[0..]
+    let end = least(n, s.len());
+    &s[0..end]
 }
 
 // The first n numbers, or all where there are fewer.
 pub fn front_numbers(s: &[u16], n: usize) -> &[u16] {
-    if n <= s.len() {
-        return &s[0..n];
-    }
-    &s[0..]
+    let end = least(n, s.len());
+    &s[0..end]
 }
 
 // A sum; one that wraps does not occur.

@@ -8,10 +8,10 @@ use Rattle.trials.proofs.codes.make_codes.Statement.{statement}
 use Rattle.trials.proofs.codes.make_codes.Tie as tie
 
 abbrev Inv-loop : tie.InvT-loop
-Inv-loop letter k x bands₀ lengths₀ f c₀ due i₀ bands lengths c i = (length bands ≡ length bands₀) × (length lengths ≡ length lengths₀)
+Inv-loop letter k x bands₀ lengths₀ f c₀ due counter₀ bands lengths c counter = (length bands ≡ length bands₀) × (length lengths ≡ length lengths₀)
 
 abbrev μ-loop : tie.MeasureT-loop
-μ-loop letter k x bands₀ lengths₀ f c₀ due i₀ bands lengths c i = due - i
+μ-loop letter k x bands₀ lengths₀ f c₀ due counter₀ bands lengths c counter = due - counter
 
 begin-list-requires : tie.Need-begin-list-requires Inv-loop μ-loop
 begin-list-requires c κs = tt
@@ -22,8 +22,8 @@ loop-holds c = search needs
 make-code-requires : tie.Need-make-code-requires Inv-loop μ-loop
 make-code-requires c κs = tt
 
-add-i : tie.Need-add-i Inv-loop μ-loop
-add-i c = omega arith
+add-counter : tie.Need-add-counter Inv-loop μ-loop
+add-counter c = omega arith
 
 loop-less : tie.Need-loop-less Inv-loop μ-loop
 loop-less c = omega arith
@@ -49,7 +49,7 @@ make-codes-spec =
     begin-list-requires
     loop-holds
     make-code-requires
-    add-i
+    add-counter
     loop-less
     loop-again
     same-length

@@ -6,10 +6,10 @@ use Rattle.trials.proofs.groups.run_lines.Statement.{statement}
 use Rattle.trials.proofs.groups.run_lines.Tie as tie
 
 abbrev Inv-loop : tie.InvT-loop
-Inv-loop file mode r₀ at₀ i₀ t7 i-end r at i = Unit {0}
+Inv-loop file mode r₀ at₀ t6 counter₀ end r at counter = Unit {0}
 
 abbrev μ-loop : tie.MeasureT-loop
-μ-loop file mode r₀ at₀ i₀ t7 i-end r at i = i-end - i
+μ-loop file mode r₀ at₀ t6 counter₀ end r at counter = end - counter
 
 loop-holds : tie.Need-loop-holds Inv-loop μ-loop
 loop-holds c = tt
@@ -23,8 +23,8 @@ run-line-requires c κs = tt
 plus-requires : tie.Need-plus-requires Inv-loop μ-loop
 plus-requires c κs = tt
 
-add-i : tie.Need-add-i Inv-loop μ-loop
-add-i c = omega arith
+add-counter : tie.Need-add-counter Inv-loop μ-loop
+add-counter c = omega arith
 
 loop-less : tie.Need-loop-less Inv-loop μ-loop
 loop-less c = omega arith
@@ -54,7 +54,7 @@ run-lines-spec =
     find-requires
     run-line-requires
     plus-requires
-    add-i
+    add-counter
     loop-less
     loop-again
     slice-aggregate-show-line

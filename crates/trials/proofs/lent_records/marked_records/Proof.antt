@@ -1,5 +1,6 @@
--- `lent_records::marked_records` meets its contract.
+-- `marked_records` is safe and ends: each turn leaves fewer records.
 use borrow.Author.Needs.{needs}
+use native.Mathlib.Omega.{arith}
 use Prim.Native.Nat.{_-_}
 use Rattle.trials.proofs.lent_records.marked_records.Statement.{statement}
 use Rattle.trials.proofs.lent_records.marked_records.Tie as tie
@@ -11,13 +12,13 @@ abbrev μ-loop : tie.MeasureT-loop
 μ-loop places₀ i₀ places i = 130 - i
 
 blank-records-requires : tie.Need-blank-records-requires Inv-loop μ-loop
-blank-records-requires c κs = search needs
+blank-records-requires c κs = tt
 
 loop-holds : tie.Need-loop-holds Inv-loop μ-loop
-loop-holds c = search needs
+loop-holds c = tt
 
 mark-requires : tie.Need-mark-requires Inv-loop μ-loop
-mark-requires c κs = search needs
+mark-requires c κs = tt
 
 mul-places : tie.Need-mul-places Inv-loop μ-loop
 mul-places c = search needs
@@ -26,16 +27,16 @@ array-set-from-places : tie.Need-array-set-from-places Inv-loop μ-loop
 array-set-from-places c = search needs
 
 add-i : tie.Need-add-i Inv-loop μ-loop
-add-i c = search needs
+add-i c = omega arith
 
 loop-less : tie.Need-loop-less Inv-loop μ-loop
-loop-less c = search needs
+loop-less c = omega arith
 
 loop-again : tie.Need-loop-again Inv-loop μ-loop
-loop-again c = search needs
+loop-again c = tt
 
 returns : tie.Need-returns Inv-loop μ-loop
-returns c = search needs
+returns c = tt
 
 pub marked-records-spec : {M : Type 1} → statement M
 marked-records-spec =

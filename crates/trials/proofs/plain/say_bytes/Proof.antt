@@ -1,5 +1,5 @@
--- `plain::say_bytes` meets its contract.
-use borrow.Author.Needs.{needs}
+-- `say_bytes` is safe and ends: each turn leaves fewer bytes.
+use native.Mathlib.Omega.{arith}
 use Prim.Native.Nat.{_-_}
 use Rattle.trials.proofs.plain.say_bytes.Statement.{statement}
 use Rattle.trials.proofs.plain.say_bytes.Tie as tie
@@ -11,25 +11,25 @@ abbrev μ-loop : tie.MeasureT-loop
 μ-loop s told₀ i₀ i-end told i = i-end - i
 
 loop-holds : tie.Need-loop-holds Inv-loop μ-loop
-loop-holds c = search needs
+loop-holds c = tt
 
 look-requires : tie.Need-look-requires Inv-loop μ-loop
-look-requires c κs = search needs
+look-requires c κs = tt
 
 say-plain-requires : tie.Need-say-plain-requires Inv-loop μ-loop
-say-plain-requires c κs = search needs
+say-plain-requires c κs = tt
 
 add-i : tie.Need-add-i Inv-loop μ-loop
-add-i c = search needs
+add-i c = omega arith
 
 loop-less : tie.Need-loop-less Inv-loop μ-loop
-loop-less c = search needs
+loop-less c = omega arith
 
 loop-again : tie.Need-loop-again Inv-loop μ-loop
-loop-again c = search needs
+loop-again c = tt
 
 returns : tie.Need-returns Inv-loop μ-loop
-returns c = search needs
+returns c = tt
 
 pub say-bytes-spec : {M : Type 1} → statement M
 say-bytes-spec =

@@ -227,35 +227,36 @@ module _ {M : Type 1} (𝓤 : URA M) (H : Heap 𝓤) (A : Atoms 𝓤) (W : Given
   abbrev Ends : Type 0
   Ends = Unit {0} × (Unit {0} × (Unit {0} × (List Place × Unit {0})))
 
-  -- ---- the exit, at the answer c and the last list zs
-  module _ (c : Checked) (zs : List Place) (said : Said c zs) (l : length zs ≡ length ys) where
-    abbrev last : List Place
-    last = zs ++ rest
+  abbrev left : Ends → List Place
+  left ends = ends .1 .1 .1 .0
 
-    abbrev result : Recorded
-    result = record { answer = c; places = last }
+  -- ---- the exit, at the answer c and the last list zs: the row is that list and the others
+  abbrev last : List Place → List Place
+  last zs = zs ++ rest
 
-    as-long : length last ≡ 130
-    as-long = length-front xs zs n l ∙ len
+  abbrev result : Checked → List Place → Recorded
+  result c zs = record { answer = c; places = last zs }
 
-    abbrev Means : Type 0
-    Means = ChecksRibbon (now x₀) (now x₁) (now x₂) ys (take n last) c × (without n last ≡ rest)
+  as-long : (zs : List Place) → length zs ≡ length ys → length (last zs) ≡ 130
+  as-long zs l = length-front xs zs n l ∙ len
 
-    means : Means
-    means =
+  module _ (c : Checked) (zs : List Place) (l : length zs ≡ length ys) where
+    means : Said c zs → ChecksRibbon (now x₀) (now x₁) (now x₂) ys (take n (last zs)) c × (without n (last zs) ≡ rest)
+    means said =
         (subst (λ (after : List Place). Said c after) (sym (take-at zs rest n (l ∙ many))) said, drop-at zs rest n (l ∙ many))
 
-    exits : (u : Val) → Is R.the-row result (resultVal u last ∷ [])
-        → ent 𝓤 (⋆ 𝓤 H A (Toks ∷ ‵ Shared ∷ [])) (Post (resultVal u last))
-    exits u is =
+    exits : Said c zs → (u : Val) → Is R.the-row (result c zs) (resultVal u (last zs) ∷ [])
+        → ent 𝓤 (⋆ 𝓤 H A (Toks ∷ ‵ Shared ∷ [])) (Post (resultVal u (last zs)))
+    exits said u is =
         qed W (Toks ∷ ‵ Shared ∷ []) ∵
         suffices ! _ (ends-at 𝓤 H A front′.ended stayed (front′.clauses 𝓤 H A mem′ run) W ((κs, qs, tt, a, vals), tt)
-        (resultVal u last) result (tt, (tt, (tt, (tt, (tt, tt))))) (tt, (tt, (tt, (tt, (tt, tt)))))) $ says ! means $ frame ! $
+        (resultVal u (last zs)) (result c zs) (tt, (tt, (tt, (tt, (tt, tt))))) (tt, (tt, (tt, (tt, (tt, tt)))))) $
+        says ! (means said) $ frame ! $
         nothing ! $ owned ! usize (Is usize) (uint-makes 𝓤 H A W w64) n _ (refl, n-fits) $ fjoin ! $
         owned ! (Row 130) (Is (Row 130)) (row-makes 𝓤 H A W 130) xs _ is-row $ fjoin ! $
         move ! (1 ∷ []) $ fsplit ! $ move ! (1 ∷ []) $ fsplit ! $ move ! (1 ∷ 3 ∷ []) $ fjoin ! $ move ! (1 ∷ 0 ∷ []) $ fjoin ! $
         move ! (1 ∷ 0 ∷ []) $ fjoin ! $
-        owned ! R.the-row (Is R.the-row) (LL.makes R.the-type R′.the-plain 𝓤 H A) result _ is $ move ! (1 ∷ 0 ∷ []) $ done !
+        owned ! R.the-row (Is R.the-row) (LL.makes R.the-type R′.the-plain 𝓤 H A) (result c zs) _ is $ move ! (1 ∷ 0 ∷ []) $ done !
 
   module _ (𝓣 : Tables 𝓤 H) (known : Triple 𝓤 (𝓣 .C #records·check-ribbon) (Check 𝓤 H A mem′ run)) where
     walk : Room u8 (length (now x₀)) → Room u16 (length (now x₁)) → Room u8 (length (now x₂))
@@ -306,8 +307,8 @@ module _ {M : Type 1} (𝓤 : URA M) (H : Heap 𝓤) (A : Atoms 𝓤) (W : Given
         use1 W (later (some (λ (c : Checked). (Alive α l₆ γ ⊛ ‵ (K.the-row .own c (u ∷ [])))
         ⊛ raw (ensured 𝓤 H A check′.ended (check′.clauses 𝓤 H A mem′ run) (κs′ α l₆ γ) (args α l₆ γ) tt c)))) (id⊢ 𝓤 _) $
         await ! tt $ pick ! (λ c. split ! $ move ! (1 ∷ []) $
-        use1 W (some (λ (zs : Ends). ‵ (lasts check′.ended (κs′ α l₆ γ) (args α l₆ γ) zs) ⊛ raw (fact 𝓤 (Said c (zs .1 .1 .1 .0)))))
-        (id⊢ 𝓤 _) $ pick ! (λ ends. split ! $ move ! (1 ∷ []) $ heard ! (Said c (ends .1 .1 .1 .0)) (λ said.
+        use1 W (some (λ (zs : Ends). ‵ (lasts check′.ended (κs′ α l₆ γ) (args α l₆ γ) zs) ⊛ raw (fact 𝓤 (Said c (left zs)))))
+        (id⊢ 𝓤 _) $ pick ! (λ ends. split ! $ move ! (1 ∷ []) $ heard ! (Said c (left ends)) (λ said.
         fsplit ! $ drop ! $ fsplit ! $ drop ! $ fsplit ! $ drop ! $ fsplit ! $ fsplit ! $ move ! (1 ∷ []) $ feqL ! (λ l.
         -- [the last list; true; the tokens and the answer; the slices; what takes it back; the others; _10; …]
         move ! (2 ∷ []) $ split ! $ move ! (1 ∷ []) $ peeks ! K.the-row (Is K.the-row) (shows 𝓤 H A K.the-row) c (u ∷ []) (λ is.
@@ -317,31 +318,35 @@ module _ {M : Type 1} (𝓤 : URA M) (H : Heap 𝓤) (A : Atoms 𝓤) (W : Given
         split ! $ move ! (1 ∷ []) $ split ! $ move ! (1 ∷ []) $ split ! $ move ! (1 ∷ []) $ split ! $ lft-end ! tt $
         -- [dead; true; κ₂'s; κ₁'s; κ₀'s; the last list; true; the slices; what takes it back; the others; _10; …]
         move ! (0 ∷ 8 ∷ 5 ∷ []) $
-        use3 W (later (‵ (Arr (mem P.the-row) (length ys) .lies (ends .1 .1 .1 .0) l₆ 0)))
-        (slice-back 𝓤 H A W P.the-row (α ∷ []) γ (ends .1 .1 .1 .0) (length ys) l₆ 0) $ await ! tt $ fsplit ! $ drop ! $
+        use3 W (later (‵ (Arr (mem P.the-row) (length ys) .lies (left ends) l₆ 0)))
+        (slice-back 𝓤 H A W P.the-row (α ∷ []) γ (left ends) (length ys) l₆ 0) $ await ! tt $ fsplit ! $ drop ! $
         -- [the first records; true; κ₂'s; κ₁'s; κ₀'s; true; the slices; the others; _10; …]: they are one row again
         rewrite ! 7 (λ (m : ℕ). ‵ (cells (mem P.the-row) rest l₆ (at 0 (mem P.the-row .size) m))) (sym l) refl $ move ! (0 ∷ 7 ∷ []) $
-        use2 W (‵ (cells (mem P.the-row) (ends .1 .1 .1 .0 ++ rest) l₆ 0)) (join-app 𝓤 H A (mem P.the-row) (ends .1 .1 .1 .0) rest l₆ 0) $
-        use1 W (‵ (row P.the-row fullShare (ends .1 .1 .1 .0 ++ rest) l₆ 0)) (whole-out 𝓤 H A W P.the-row (ends .1 .1 .1 .0 ++ rest) l₆ 0) $
-        use1 W (‵ (fat fullShare (rowTy 130) l₆ 0 (rowVal (ends .1 .1 .1 .0 ++ rest))) ⊛ ‵ (Row 130 .own (ends .1 .1 .1 .0 ++ rest) (rowVal (ends .1 .1 .1 .0 ++ rest) ∷ [])))
-        (together 𝓤 H A W 130 (ends .1 .1 .1 .0 ++ rest) l₆ (as-long c (ends .1 .1 .1 .0) said l)) $ split ! $
+        use2 W (‵ (cells (mem P.the-row) (last (left ends)) l₆ 0)) (join-app 𝓤 H A (mem P.the-row) (left ends) rest l₆ 0) $
+        use1 W (‵ (row P.the-row fullShare (last (left ends)) l₆ 0)) (whole-out 𝓤 H A W P.the-row (last (left ends)) l₆ 0) $
+        use1 W (‵ (fat fullShare (rowTy 130) l₆ 0 (rowVal (last (left ends))))
+        ⊛ ‵ (Row 130 .own (last (left ends)) (rowVal (last (left ends)) ∷ [])))
+        (together 𝓤 H A W 130 (last (left ends)) l₆ (as-long (left ends) l)) $ split ! $
         -- [_6; what the row owns; true; κ₂'s; κ₁'s; κ₀'s; true; the slices; _10; …]
         move ! (3 ∷ 2 ∷ []) $ join ! $ move ! (3 ∷ 0 ∷ []) $ join ! $ move ! (3 ∷ 0 ∷ []) $ join ! $
         -- [the tokens; _6; what the row owns; true; the slices; _10; …; that _6 dies; …]
-        move ! (2 ∷ []) $ peeks ! (Row 130) (Is (Row 130)) (shows 𝓤 H A (Row 130)) (ends .1 .1 .1 .0 ++ rest) (rowVal (ends .1 .1 .1 .0 ++ rest) ∷ []) (λ is-last.
+        move ! (2 ∷ []) $
+        peeks ! (Row 130) (Is (Row 130)) (shows 𝓤 H A (Row 130)) (last (left ends)) (rowVal (last (left ends)) ∷ []) (λ is-last.
         -- [what the row owns; the tokens; _6; true; the slices; _10; …]: the result is made
         assigns ! (of-opd ! (load ! (from ! (stop !)) (look ! 2 refl))) (from ! (stop !))
-        (init ! 5 refl (array-lawful 𝓤 H A W P.the-row (LL.lawful P.the-type P′.the-laws 𝓤 H A W) 130 .typed (ends .1 .1 .1 .0 ++ rest) _ is-last .0)) $
+        (init ! 5 refl (array-lawful 𝓤 H A W P.the-row (LL.lawful P.the-type P′.the-laws 𝓤 H A W) 130
+        .typed (last (left ends)) _ is-last .0)) $
         assigns ! (agg ! (and-then ! (load ! (from ! (stop !)) (look ! 11 refl))
         (and-then ! (load ! (from ! (stop !)) (look ! 5 refl)) (no-more !)))) (from ! (stop !))
-        (init ! 24 refl (LL.lawful R.the-type R′.the-laws 𝓤 H A W .typed (result c (ends .1 .1 .1 .0) said l) _ (result-is (result c (ends .1 .1 .1 .0) said l) u is is-last) .0)) $
+        (init ! 24 refl (LL.lawful R.the-type R′.the-laws 𝓤 H A W .typed (result c (left ends)) _
+        (result-is (result c (left ends)) u is is-last) .0)) $
         returns ! (look ! 24 refl) $ forget ! 2 refl $ forget ! 5 refl $ forget ! 7 refl $ forget ! 9 refl $ forget ! 11 refl $
         forget ! 14 refl $ forget ! 16 refl $ forget ! 18 refl $ forget ! 20 refl $ forget ! 22 refl $ forget ! 24 refl $
         move ! (24 ∷ 25 ∷ []) $ free1 ! $ move ! (22 ∷ 23 ∷ []) $ free1 ! $ move ! (20 ∷ 21 ∷ []) $ free1 ! $
         move ! (18 ∷ 19 ∷ []) $ free1 ! $ move ! (16 ∷ 17 ∷ []) $ free1 ! $ move ! (14 ∷ 15 ∷ []) $ free1 ! $
         move ! (2 ∷ 13 ∷ []) $ free1 ! $ move ! (10 ∷ 11 ∷ []) $ free1 ! $ move ! (8 ∷ 9 ∷ []) $ free1 ! $
         move ! (6 ∷ 7 ∷ []) $ free1 ! $ move ! (4 ∷ 5 ∷ []) $ free1 ! $ free0 ! $
-        keep ! (1 ∷ 3 ∷ []) $ by ! (exits c (ends .1 .1 .1 .0) said l u (result-is (result c (ends .1 .1 .1 .0) said l) u is is-last))))))))))))))))))))))
+        keep ! (1 ∷ 3 ∷ []) $ by ! (exits c (left ends) l said u (result-is (result c (left ends)) u is is-last))))))))))))))))))))))
 
 -- ---- the walk taken to the contract, and to the routine
 module _ {M : Type 1} (𝓤 : URA M) (H : Heap 𝓤) (A : Atoms 𝓤) (W : Given 𝓤 H A) (mem′ : Memory → SProp 𝓤)

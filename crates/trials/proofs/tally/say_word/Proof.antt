@@ -1,5 +1,6 @@
--- `tally::say_word` meets its contract.
+-- `say_word` is safe and ends: each turn leaves fewer bytes.
 use borrow.Author.Needs.{needs}
+use native.Mathlib.Omega.{arith}
 use Prim.Native.Nat.{_-_}
 use Rattle.trials.proofs.tally.say_word.Statement.{statement}
 use Rattle.trials.proofs.tally.say_word.Tie as tie
@@ -11,31 +12,31 @@ abbrev μ-loop : tie.MeasureT-loop
 μ-loop word told₀ i₀ i-end told i = i-end - i
 
 write-all-requires : tie.Need-write-all-requires Inv-loop μ-loop
-write-all-requires c κs = search needs
+write-all-requires c κs = tt
 
 loop-holds : tie.Need-loop-holds Inv-loop μ-loop
-loop-holds c = search needs
+loop-holds c = tt
 
 look-requires : tie.Need-look-requires Inv-loop μ-loop
-look-requires c κs = search needs
+look-requires c κs = tt
 
 cast-feed : tie.Need-cast-feed Inv-loop μ-loop
 cast-feed c = search needs
 
 feed-requires : tie.Need-feed-requires Inv-loop μ-loop
-feed-requires c κs = search needs
+feed-requires c κs = tt
 
 add-i : tie.Need-add-i Inv-loop μ-loop
-add-i c = search needs
+add-i c = omega arith
 
 loop-less : tie.Need-loop-less Inv-loop μ-loop
-loop-less c = search needs
+loop-less c = omega arith
 
 loop-again : tie.Need-loop-again Inv-loop μ-loop
-loop-again c = search needs
+loop-again c = tt
 
 returns : tie.Need-returns Inv-loop μ-loop
-returns c = search needs
+returns c = tt
 
 pub say-word-spec : {M : Type 1} → statement M
 say-word-spec =

@@ -1,14 +1,14 @@
--- `start_of` is safe and ends: each turn leaves fewer fields.
+-- `start_of` is safe and ends: each turn leaves fewer fields to pass.
 use native.Mathlib.Omega.{arith}
 use Prim.Native.Nat.{_-_}
-use Rattle.trials.proofs.fields.start_of.Statement.{statement}
-use Rattle.trials.proofs.fields.start_of.Tie as tie
+use Rattle.trials.proofs.line_fields.start_of.Statement.{statement}
+use Rattle.trials.proofs.line_fields.start_of.Tie as tie
 
 abbrev Inv-loop : tie.InvT-loop
-Inv-loop line k from₀ i₀ from i = Unit {0}
+Inv-loop line k from₀ counter₀ from counter = Unit {0}
 
 abbrev μ-loop : tie.MeasureT-loop
-μ-loop line k from₀ i₀ from i = k - i
+μ-loop line k from₀ counter₀ from counter = k - counter
 
 loop-holds : tie.Need-loop-holds Inv-loop μ-loop
 loop-holds c = tt
@@ -19,8 +19,8 @@ find-requires c κs = tt
 plus-requires : tie.Need-plus-requires Inv-loop μ-loop
 plus-requires c κs = tt
 
-add-i : tie.Need-add-i Inv-loop μ-loop
-add-i c = omega arith
+add-counter : tie.Need-add-counter Inv-loop μ-loop
+add-counter c = omega arith
 
 loop-less : tie.Need-loop-less Inv-loop μ-loop
 loop-less c = omega arith
@@ -40,7 +40,7 @@ start-of-spec =
     loop-holds
     find-requires
     plus-requires
-    add-i
+    add-counter
     loop-less
     loop-again
     returns)

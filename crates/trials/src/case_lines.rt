@@ -1,20 +1,17 @@
 // The cases that stand written out in the file of cases, a line each.
-use crate::fields::bytes_in;
-use crate::fields::numbers_in;
 use crate::file_case::run_file;
+use crate::lent::MOST_BYTES;
+use crate::lent::MOST_NUMBERS;
+use crate::line_fields::bytes_in;
+use crate::line_fields::numbers_in;
 use crate::list_case::run_list;
 use crate::pair_case::run_pair;
 use crate::tally::Tally;
 
-// the most that a field stands for
-const BYTES: usize = 16640;
-
-const NUMBERS: usize = 160;
-
 // The case of a line `file FILE ROOMS`.
 pub fn file_line(t: Tally, k: u64, line: &[u8]) -> Tally {
-    let mut file = [0u8; BYTES];
-    let mut rooms = [0u16; NUMBERS];
+    let mut file = [0u8; MOST_BYTES];
+    let mut rooms = [0u16; MOST_NUMBERS];
     run_file(
         t,
         k,
@@ -25,12 +22,12 @@ pub fn file_line(t: Tally, k: u64, line: &[u8]) -> Tally {
 
 // The case of a line `list BANDS LENGTHS NAMES SIZES RIBBON ROOMS`.
 pub fn list_line(t: Tally, k: u64, line: &[u8]) -> Tally {
-    let mut bands = [0u8; BYTES];
-    let mut lengths = [0u16; NUMBERS];
-    let mut names = [0u8; BYTES];
-    let mut sizes = [0u16; NUMBERS];
-    let mut ribbon = [0u8; BYTES];
-    let mut rooms = [0u16; NUMBERS];
+    let mut bands = [0u8; MOST_BYTES];
+    let mut lengths = [0u16; MOST_NUMBERS];
+    let mut names = [0u8; MOST_BYTES];
+    let mut sizes = [0u16; MOST_NUMBERS];
+    let mut ribbon = [0u8; MOST_BYTES];
+    let mut rooms = [0u16; MOST_NUMBERS];
     run_list(
         t,
         k,
@@ -45,8 +42,8 @@ pub fn list_line(t: Tally, k: u64, line: &[u8]) -> Tally {
 
 // The case of a line `pair LIST RIBBON`.
 pub fn pair_line(t: Tally, k: u64, line: &[u8]) -> Tally {
-    let mut list = [0u8; BYTES];
-    let mut ribbon = [0u8; BYTES];
+    let mut list = [0u8; MOST_BYTES];
+    let mut ribbon = [0u8; MOST_BYTES];
     run_pair(
         t,
         k,
