@@ -14,7 +14,10 @@ use crate::supplied::{codes_for, ENDINGS, RIBBONS};
 use crate::{limits, show};
 use reference::drive::chance::Chance;
 use reference::drive::files::{File, Room};
-use reference::drive::outcomes::{outcome_of, Outcome};
+use reference::drive::outcomes::{
+    outcome_of,
+    Outcome::{self, HeldAbove, HeldAt, HeldBelow, Missing, RibbonRefused},
+};
 use reference::drive::programs::Program::{self, Check, Ribbon, Sheet};
 use reference::drive::run::{Answer, Ending};
 use reference::{Read, Refusal};
@@ -125,40 +128,42 @@ fn of_kind(name: &str) -> Vec<(Vec<Code>, Vec<u8>, Outcome)> {
     (0..60).map(made).collect()
 }
 
+const HELD: &[Outcome] = &[HeldBelow, HeldAt, HeldAbove];
+const NO_BAND: &[Outcome] = &[RibbonRefused(8)];
+
+/// The kinds of ribbons, with what the check is to find.
+const MEANT: [(&str, &[Outcome]); 23] = [
+    ("its own ribbon", &[HeldAt]),
+    ("its own, turned", &[HeldAt]),
+    ("its own with bands before", &[HeldAbove]),
+    ("its own with bands behind", &[HeldAbove]),
+    ("its own, a band changed", &[HeldAt, Missing]),
+    ("its own, a band left out", &[HeldBelow, Missing]),
+    ("its own, a band put in", &[HeldAbove, Missing]),
+    ("its own, cut off", &[HeldBelow, Missing]),
+    ("its own in other orders, the shortest", HELD),
+    ("codes merged", HELD),
+    ("codes merged, the shortest of some", HELD),
+    ("codes merged, all turned", HELD),
+    ("codes end to end", HELD),
+    ("one code turned alone", HELD),
+    ("no bands", &[Missing]),
+    ("about 16,384 bands", &[HeldAbove, RibbonRefused(15)]),
+    ("far over 16,384 bands", &[RibbonRefused(15)]),
+    ("16,384 bands, CR LF and more", &[RibbonRefused(15)]),
+    (
+        "about 16,384 bytes, one no band",
+        &[RibbonRefused(8), RibbonRefused(15)],
+    ),
+    ("a byte that is no band", NO_BAND),
+    ("a line break inside", NO_BAND),
+    ("in lower case", NO_BAND),
+    ("an order list", NO_BAND),
+];
+
 #[test]
 fn each_kind_of_ribbon_comes_out_as_it_is_meant() {
-    use Outcome::{HeldAbove, HeldAt, HeldBelow, Missing, RibbonRefused};
-    let held = [HeldBelow, HeldAt, HeldAbove];
-    let about_most = [HeldAbove, RibbonRefused(15)];
-    let bad = [RibbonRefused(8)];
-    for (name, outcomes) in [
-        ("its own ribbon", &[HeldAt][..]),
-        ("its own, turned", &[HeldAt]),
-        ("its own with bands before", &[HeldAbove]),
-        ("its own with bands behind", &[HeldAbove]),
-        ("its own, a band changed", &[HeldAt, Missing]),
-        ("its own, a band left out", &[HeldBelow, Missing]),
-        ("its own, a band put in", &[HeldAbove, Missing]),
-        ("its own, cut off", &[HeldBelow, Missing]),
-        ("its own in other orders, the shortest", &held),
-        ("codes merged", &held),
-        ("codes merged, the shortest of some", &held),
-        ("codes merged, all turned", &held),
-        ("codes end to end", &held),
-        ("one code turned alone", &held),
-        ("no bands", &[Missing]),
-        ("about 16,384 bands", &about_most),
-        ("far over 16,384 bands", &[RibbonRefused(15)]),
-        ("16,384 bands, CR LF and more", &[RibbonRefused(15)]),
-        (
-            "about 16,384 bytes, one no band",
-            &[RibbonRefused(8), RibbonRefused(15)],
-        ),
-        ("a byte that is no band", &bad),
-        ("a line break inside", &bad),
-        ("in lower case", &bad),
-        ("an order list", &bad),
-    ] {
+    for (name, outcomes) in MEANT {
         for (codes, ribbon, outcome) in of_kind(name) {
             assert!(
                 outcomes.contains(&outcome),
@@ -208,7 +213,7 @@ fn a_ribbons_limit_is_tried_on_both_sides() {
         .filter(|(_, ribbon, _)| ribbon.len() == 16_384)
         .map(|(_, _, outcome)| outcome)
         .collect();
-    assert_eq!(outcomes, [Outcome::HeldAbove, Outcome::Missing].into());
+    assert_eq!(outcomes, [HeldAbove, Missing].into());
 }
 
 #[test]
