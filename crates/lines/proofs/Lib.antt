@@ -1,4 +1,3 @@
--- Numbers with a sign, and lines by their parts.
+-- Numbers with a sign, and how long a line is.
 pub mod Signs
-pub mod Refused
-pub mod Found
+pub mod Short

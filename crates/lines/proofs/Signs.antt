@@ -15,7 +15,7 @@ use borrow.Author.Tests.{le-leb}
 use lib.ListN.{length}
 use Rattle.words.specs.Texts.{text}
 use Rattle.words.specs.Written.{Written}
-use Rattle.words.proofs.Written.{both-written}
+use Rattle.words.proofs.Written.{written-as, both-written}
 use Rattle.sheets.specs.Decimal.{decimal}
 use Rattle.sheets.proofs.Decimal.{decimal-few}
 use Rattle.programs.specs.Programs.{signed}
@@ -61,6 +61,10 @@ signed-below : (z : ℤ) → leZ (pos 0) z ≡ false → signed z ≡ text "-" +
 signed-below (pos n) t = absurd (true≢false (sym (le-leb 0 n (omega arith)) ∙ t))
 signed-below (negsuc n) t = refl
 
+pub eleven-bytes : (z : ℤ) → SFits w32 z → length (signed z) ≤ 11
+eleven-bytes (pos n) f = omega (arith, decimal-few n (small (pos n) f))
+eleven-bytes (negsuc n) f = omega (arith, decimal-few (suc n) (small (negsuc n) f))
+
 module _ (d : ℤ) (f : SFits w32 d) where
   abbrev d32 : ℤ
   d32 = toZ w32 (ofZ w32 d)
@@ -83,18 +87,9 @@ module _ (d : ℤ) (f : SFits w32 d) where
   pub ten-digits : {n : ℕ} → n ≡ natAbs d32 → length (decimal n) ≤ 10
   ten-digits {n} e = decimal-few n (omega (arith, ap natAbs same32, small d f))
 
-  pub eleven-bytes : length (signed d32) ≤ 11
-  eleven-bytes = subst⁻¹ (λ (z : ℤ). length (signed z) ≤ 11) same32 (by d (small d f))
-    where
-      by : (z : ℤ) → natAbs z < 4294967296 → length (signed z) ≤ 11
-      by (pos n) h = omega (arith, decimal-few n h)
-      by (negsuc n) h = omega (arith, decimal-few (suc n) h)
-
   pub put-above : {row after : List ℕ} {at end n : ℕ} → leZ (pos 0) d32 ≡ true → n ≡ natAbs d32
       → Written row at (decimal n) after end → Written row at (signed d) after end
-  put-above {row} {after} {at} {end} t e w =
-      let g = ap signed (sym same32) ∙ signed-above d32 t ∙ ap decimal (sym e) in
-      subst⁻¹ (λ (s : List ℕ). Written row at s after end) g w
+  put-above t e w = written-as (ap signed (sym same32) ∙ signed-above d32 t ∙ ap decimal (sym e)) w
 
   module _ (t : leZ (pos 0) d32 ≡ false) where
     from-zero : Opposite d
@@ -114,6 +109,6 @@ module _ (d : ℤ) (f : SFits w32 d) where
 
     pub put-below : {row mid after : List ℕ} {at k end n : ℕ} → at ≤ length row → n ≡ natAbs d32 → Written row at (text "-") mid k
         → Written mid k (decimal n) after end → Written row at (signed d) after end
-    put-below {row} {after = after} {at} {end = end} {n} l e v w =
-        let g = ap signed (sym same32) ∙ signed-below d32 t ∙ ap (λ (m : ℕ). text "-" ++ decimal m) (sym e) in
-        subst⁻¹ (λ (s : List ℕ). Written row at s after end) g (both-written l v w)
+    put-below l e v w =
+        written-as (ap signed (sym same32) ∙ signed-below d32 t ∙ ap (λ (m : ℕ). text "-" ++ decimal m) (sym e))
+        (both-written l v w)

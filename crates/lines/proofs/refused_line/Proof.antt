@@ -1,42 +1,70 @@
--- `refused_line` meets its contract. Behind each part of the line there is room for the rest, since no number of 32
--- bits has more than ten digits; and the parts are the line.
-use Prim.Native.Nat.{_+_, _≤_}
+-- `refused_line` meets its contract: the parts of the line, one behind the other.
+use mathlib.Core.Path.{refl}
+use mathlib.Core.List.{List, [], _∷_, _++_}
+use Prim.Native.Nat.{ℕ}
 use native.Mathlib.Omega.{arith}
 use borrow.Author.Needs.{needs}
-use lib.ListN.{length}
+use Rattle.words.specs.Texts.{text}
+use Rattle.words.proofs.Partly.{Partly, none-yet, room-for, and-then, all-done}
+use Rattle.lists.specs.Answers.{refusalOf}
+use Rattle.lists.proofs.Runs.{written-over}
+use Rattle.grammar.specs.Files.{comma, lineBreak}
 use Rattle.sheets.specs.Decimal.{decimal}
-use Rattle.sheets.proofs.Decimal.{decimal-few}
-use Rattle.lines.proofs.Refused.{refused-written}
+use Rattle.programs.specs.Programs.{refusedLine}
+use Rattle.lines.proofs.Short.{refused-short}
 use Rattle.lines.proofs.refused_line.Statement.{statement}
 use Rattle.lines.proofs.refused_line.Tie as tie
 
-few : (c : tie.After-struct-known)
-    → (length (decimal (c .before .before .args .r .number)) ≤ 10) × (length (decimal (c .before .before .args .r .row)) ≤ 10)
-few c =
-    let r = c .before .before .args .r in
-    let g = c .struct-known .given in
-    (decimal-few (r .number) (omega (arith, g)), decimal-few (r .row) (omega (arith, g)))
+-- the place behind each part, told from the beginning
+abbrev at-number : tie.After-put-word → tie.After-struct-known
+at-number c = c .before .before .before
 
--- room behind the word, the number, the comma and the row
-behind-word : (c : tie.After-put-word) → c .put-word .result + 24 ≤ length (c .put-word .last .1 .0)
-behind-word c = let k = c .put-word in omega (arith, k .ensures .end-is, k .kept .1 .0, c .before .before .before .before .before .pre)
+abbrev at-comma : tie.After-put-decimal → tie.After-struct-known
+at-comma c = at-number (c .before .before .before .before)
 
-behind-number : (c : tie.After-put-decimal) → c .put-decimal .result + 14 ≤ length (c .put-decimal .last .1 .0)
-behind-number c =
-    let k = c .put-decimal in
-    let w = c .before .before .before .before in
-    let f = few (w .before .before .before) in omega (arith, k .ensures .end-is, k .kept .1 .0, behind-word w)
+abbrev at-row : tie.After-put-word2 → tie.After-struct-known
+at-row c = at-comma (c .before .before .before .before .before)
 
-behind-comma : (c : tie.After-put-word2) → c .put-word2 .result + 13 ≤ length (c .put-word2 .last .1 .0)
-behind-comma c =
-    let k = c .put-word2 in omega (arith, k .ensures .end-is, k .kept .1 .0, behind-number (c .before .before .before .before .before))
+abbrev at-break : tie.After-put-decimal2 → tie.After-struct-known
+at-break c = at-row (c .before .before .before .before)
 
-behind-row : (c : tie.After-put-decimal2) → c .put-decimal2 .result + 3 ≤ length (c .put-decimal2 .last .1 .0)
-behind-row c =
-    let k = c .put-decimal2 in
-    let w = c .before .before .before .before in
-    let f = few (w .before .before .before .before .before .before .before .before .before .before .before .before) in
-    omega (arith, k .ensures .end-is, k .kept .1 .0, behind-comma w)
+-- what is written there, and what is still to come
+module _ (c : tie.After-struct-known) where
+  abbrev begin : tie.Start
+  begin = c .before .before
+
+  abbrev Left : List ℕ → ℕ → List ℕ → Type 0
+  Left now end rest = Partly (begin .args .row .now) 0 (refusedLine (refusalOf (begin .args .r))) now end rest
+
+  abbrev number : List ℕ
+  number = decimal (begin .args .r .number)
+
+  abbrev from-row : List ℕ
+  from-row = decimal (begin .args .r .row) ++ lineBreak
+
+  begun : Left (begin .args .row .now) 0 (text "refused," ++ (number ++ (comma ∷ from-row)))
+  begun =
+      let r = begin .args .r in
+      let g = c .struct-known .given in
+      let short = refused-short (r .number) (r .row) (omega (arith, g)) (omega (arith, g)) in
+      none-yet (begin .args .row .now) 0 (refusedLine (refusalOf r)) (omega (arith, begin .pre)) refl
+
+worded : (c : tie.After-put-word)
+    → Left (at-number c) (c .put-word .last .1 .0) (c .put-word .result) (number (at-number c) ++ (comma ∷ from-row (at-number c)))
+worded c = and-then (begun (at-number c)) (text "refused,") _ refl (c .put-word .ensures)
+
+numbered : (c : tie.After-put-decimal)
+    → Left (at-comma c) (c .put-decimal .last .1 .0) (c .put-decimal .result) (comma ∷ from-row (at-comma c))
+numbered c = and-then (worded (c .before .before .before .before)) (number (at-comma c)) _ refl (c .put-decimal .ensures)
+
+parted : (c : tie.After-put-word2)
+    → Left (at-row c) (c .put-word2 .last .1 .0) (c .put-word2 .result) (from-row (at-row c))
+parted c = and-then (numbered (c .before .before .before .before .before)) (comma ∷ []) _ refl (c .put-word2 .ensures)
+
+counted : (c : tie.After-put-decimal2) → Left (at-break c) (c .put-decimal2 .last .1 .0) (c .put-decimal2 .result) lineBreak
+counted c =
+    and-then (parted (c .before .before .before .before)) (decimal (begin (at-break c) .args .r .row)) lineBreak refl
+    (c .put-decimal2 .ensures)
 
 cast-number : tie.Need-cast-number
 cast-number c = search needs
@@ -48,38 +76,35 @@ put-word-requires : tie.Need-put-word-requires
 put-word-requires c κs = search needs
 
 put-decimal-requires : tie.Need-put-decimal-requires
-put-decimal-requires c κs = let w = c .before .before .before in omega (arith, few (w .before .before .before), behind-word w)
+put-decimal-requires c κs =
+    let w = c .before .before .before in
+    room-for (worded w) (number (at-number w)) (comma ∷ from-row (at-number w)) refl
 
 slice-aggregate-put-word-2 : tie.Need-slice-aggregate-put-word-2
 slice-aggregate-put-word-2 c = search needs
 
 put-word-requires-2 : tie.Need-put-word-requires-2
-put-word-requires-2 c κs = omega (arith, behind-number (c .before .before .before .before))
+put-word-requires-2 c κs =
+    let n = c .before .before .before .before in room-for (numbered n) (comma ∷ []) (from-row (at-comma n)) refl
 
 put-decimal-requires-2 : tie.Need-put-decimal-requires-2
 put-decimal-requires-2 c κs =
-    let w = c .before .before .before in
-    omega (arith, few (w .before .before .before .before .before .before .before .before .before .before .before .before), behind-comma w)
+    let p = c .before .before .before in room-for (parted p) (decimal (begin (at-row p) .args .r .row)) lineBreak refl
 
 slice-aggregate-put-word-3 : tie.Need-slice-aggregate-put-word-3
 slice-aggregate-put-word-3 c = search needs
 
 put-word-requires-3 : tie.Need-put-word-requires-3
-put-word-requires-3 c κs = omega (arith, behind-row (c .before .before .before .before))
+put-word-requires-3 c κs = room-for (counted (c .before .before .before .before)) lineBreak [] refl
 
 same-length : tie.Need-same-length
 same-length c = search needs
 
 returns : tie.Need-returns
 returns c =
-    let line-break = c .before .before in
-    let line = line-break .before .before .before .before .before in
-    let comma = line .before .before .before .before in
-    let number = comma .before .before .before .before .before in
-    let word = number .before .before .before .before in
-    let r = word .before .before .before .before .before .args .r in
-    refused-written (r .number) (r .row) (word .put-word .ensures) (number .put-decimal .ensures) (comma .put-word2 .ensures)
-    (line .put-decimal2 .ensures) (line-break .put-word3 .ensures)
+    let b = c .before .before in
+    let p = counted (b .before .before .before .before .before) in
+    written-over (all-done (and-then p lineBreak [] refl (b .put-word3 .ensures)) refl)
 
 pub refused-line-spec : {M : Type 1} → statement M
 refused-line-spec =
