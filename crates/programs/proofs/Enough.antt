@@ -4,19 +4,18 @@ use mathlib.Core.Bool.{Bool, true, false}
 use mathlib.Core.List.{List, []}
 use Prim.Native.Nat.{ℕ, _-_, _≤_, _<_}
 use native.Mathlib.Omega.{arith}
-use lib.Dec.{eqb}
 use lib.ListN.{length, take, drop}
 use lib.Seq.{length-take-le, take-all}
 use Rattle.words.specs.Tests.{pick, same}
 use Rattle.words.specs.Decides.{Decides, yes, no}
 use Rattle.words.proofs.Deciding.{is-le}
-use Rattle.lists.specs.Refusals.{refusal, whole, longFile, longRibbon}
+use Rattle.lists.specs.Refusals.{whole, longFile, longRibbon}
 use Rattle.grammar.specs.Files.{lineBreak, Orders, bad}
 use Rattle.grammar.specs.Grammar.{long-file}
 use Rattle.grammar.specs.Orders.{readOrders}
 use Rattle.grammar.specs.RibbonFile.{ribbonOf}
 use Rattle.grammar.proofs.Only.{reads-only}
-use Rattle.programs.specs.Programs.{refusedLine, ofList, checkedLine, checkOutput, ReadsEnough}
+use Rattle.programs.specs.Programs.{refusedLine, writtenFor, ofList, checkedLine, checkOutput, ReadsEnough}
 use Rattle.programs.specs.Prints as prints
 use Rattle.programs.proofs.Prints.{line-ours, check-line-only}
 
@@ -36,8 +35,7 @@ long-list s h = reads-only {s = s} (long-file (omega arith))
 
 of-list : (written : Orders → List ℕ) (file : List ℕ) → ofList written (take 16385 file) ≡ ofList written file
 of-list written file =
-    ap (λ (x : Orders). elim (eqb (x .number) 0) [ true ↦ written x | false ↦ refusedLine (refusal (x .number) (x .line)) ])
-    (same-of-start readOrders 16385 (bad longFile 0) long-list file)
+    ap (writtenFor written) (same-of-start readOrders 16385 (bad longFile 0) long-list file)
 
 -- CR LF is all that is taken off
 ribbon-long : (s : List ℕ) → length s - 2 ≤ length (ribbonOf s)
@@ -56,7 +54,7 @@ long-ribbon codes s h =
 of-ribbon : (list file : List ℕ) → checkOutput list (take 16387 file) ≡ checkOutput list file
 of-ribbon list file =
     let x = readOrders list in
-    ap (λ (t : List ℕ). elim (eqb (x .number) 0) [ true ↦ t | false ↦ refusedLine (refusal (x .number) (x .line)) ])
+    ap (λ (t : List ℕ). writtenFor (λ _. t) x)
     (same-of-start (λ s. checkedLine (x .codes) (ribbonOf s)) 16387 (refusedLine (whole longRibbon)) (long-ribbon (x .codes)) file)
 
 pub reads-enough : ReadsEnough

@@ -35,7 +35,8 @@ use Rattle.checking.proofs.Answers.{difference, difference-one}
 use Rattle.sheets.specs.Sheet.{SheetFor, sheetText}
 use Rattle.sheets.proofs.Decimal.{digits-ours, digits-one}
 use Rattle.sheets.proofs.Sheet.{sheet-ours, sheet-only}
-use Rattle.programs.specs.Programs.{refusedLine, ofList, ribbonOutput, sheetOutput, signed, foundLine, checkedLine, checkOutput}
+use Rattle.programs.specs.Programs.{refusedLine, writtenFor, ofList, ribbonOutput, sheetOutput, signed, foundLine, checkedLine}
+use Rattle.programs.specs.Programs.{checkOutput}
 use Rattle.programs.specs.Prints as p
 
 -- lines of refusals
@@ -49,14 +50,11 @@ line-only {n} {row} (p.refused-line d e) =
 
 -- A program that writes what is due for a list that is accepted, and only that.
 module _ (Due : List (List ℕ) → List (List ℕ) → List ℕ → Type 0) (written : Orders → List ℕ) (list : List ℕ) where
-  abbrev writtenFor : Orders → List ℕ
-  writtenFor x = elim (eqb (x .number) 0) [ true ↦ written x | false ↦ refusedLine (refusal (x .number) (x .line)) ]
-
   prints-ours : ((es : List g.Entry) → Accepted list es → Due (g.names es) (g.codes es) (written (orders 0 0 (g.names es) (g.codes es))))
       → p.Prints Due list (ofList written list)
   prints-ours due = by (reads-ours list) (kind (reads-ours list))
     where
-      by : {x : Orders} → g.Reads list x → Kind list x → p.Prints Due list (writtenFor x)
+      by : {x : Orders} → g.Reads list x → Kind list x → p.Prints Due list (writtenFor written x)
       by r (unfit {n} {l} h) = let e = ne-eqb n 0 (omega arith) in rw (e, writtenFor) (p.refuses r h (line-ours n l))
       by r (tells {es} a) = p.writes r (due es a)
 
@@ -65,9 +63,9 @@ module _ (Due : List (List ℕ) → List (List ℕ) → List ℕ → Type 0) (wr
       → p.Prints Due list t → t ≡ ofList written list
   prints-only due (p.refuses {n} {row} r h l) =
       let e = ne-eqb n 0 (omega arith) in
-      let f : writtenFor (bad n row) ≡ refusedLine (refusal n row) = rw (e, writtenFor) refl in
-      line-only l ∙ sym f ∙ ap writtenFor (sym (reads-only r))
-  prints-only due (p.writes {names} {codes} {t} r d) = due names codes t d ∙ ap writtenFor (sym (reads-only r))
+      let f : writtenFor written (bad n row) ≡ refusedLine (refusal n row) = rw (e, writtenFor) refl in
+      line-only l ∙ sym f ∙ ap (writtenFor written) (sym (reads-only r))
+  prints-only due (p.writes {names} {codes} {t} r d) = due names codes t d ∙ ap (writtenFor written) (sym (reads-only r))
 
 pub ribbon-program-ours : p.RibbonProgram ribbonOutput
 ribbon-program-ours list =

@@ -26,10 +26,12 @@ abbrev pub refusedLine : Refusal → List ℕ
 refusedLine r = text "refused," ++ (decimal (r .number) ++ (comma ∷ (decimal (r .row) ++ lineBreak)))
 
 -- what is written of an order list that is read, and the refusal of one that isn't
-abbrev pub ofList : (Orders → List ℕ) → List ℕ → List ℕ
-ofList written file =
-    let x = readOrders file in
+abbrev pub writtenFor : (Orders → List ℕ) → Orders → List ℕ
+writtenFor written x =
     elim (eqb (x .number) 0) [ true ↦ written x | false ↦ refusedLine (refusal (x .number) (x .line)) ]
+
+abbrev pub ofList : (Orders → List ℕ) → List ℕ → List ℕ
+ofList written file = writtenFor written (readOrders file)
 
 -- The ribbon program writes the ribbon and CR LF, the sheet program the sheet.
 abbrev pub ribbonOutput : List ℕ → List ℕ

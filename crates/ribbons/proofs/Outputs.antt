@@ -3,12 +3,11 @@
 -- list.
 use mathlib.Core.Path.{_≡_, sym, ap, subst, _∙_}
 use mathlib.Core.Logic.{inl, inr}
-use mathlib.Core.Bool.{true, false}
+use mathlib.Core.Bool.{true}
 use mathlib.Core.List.{List, [], _∷_}
 use Prim.Native.Nat.{ℕ, _*_, _≤_}
 use native.Mathlib.Omega.{arith}
 use native.Mathlib.Nat.{mul-suc}
-use lib.Dec.{eqb}
 use lib.ListN.{length, take, drop, length-append, length-map}
 use lib.Seq.{take-at, length-take-le}
 use borrow.Author.Tests.{ne-eqb}
@@ -32,7 +31,7 @@ use Rattle.orders.specs.Calls.{Accepts, Refuses, in-file, in-buffers, Means, Re
 use Rattle.orders.specs.declared.Read.{Read}
 use Rattle.orders.specs.declared.Read.the-variants.{Refused, Orders}
 use Rattle.orders.proofs.Calls.{handed}
-use Rattle.programs.specs.Programs.{refusedLine, ofList, WritesOver}
+use Rattle.programs.specs.Programs.{refusedLine, writtenFor, ofList, WritesOver}
 
 pub writes-over : {text before after : List ℕ} {r : ℕ} → r ≡ length text → after ≡ over text before
     → WritesOver text before after r
@@ -41,17 +40,10 @@ writes-over {text} {before} {after} {r} e f =
     omega (arith, ap length f, length-append text (drop (length text) before)) in
     record { long = e; written = f; counts = (l, sym (length-take-le r after l)) }
 
--- the output for what a file is read as, where this is written of an order list
-outputFor : (files.Orders → List ℕ) → files.Orders → List ℕ
-outputFor written x = elim (eqb (x .number) 0) [
-  | true ↦ written x
-  | false ↦ refusedLine (refusal (x .number) (x .line))
-]
-
+-- the output for what a file is read as
 as-read : (written : files.Orders → List ℕ) {file : List ℕ} {x : files.Orders} → Reads file x
-    → ofList written file ≡ outputFor written x
-unfolding outputFor
-as-read written r = ap (outputFor written) (reads-only r)
+    → ofList written file ≡ writtenFor written x
+as-read written r = ap (writtenFor written) (reads-only r)
 
 -- Any list fits into 8,192 bands, 128 lengths, 3,072 bytes of names and 128 sizes.
 sum-most : (cs : List (List ℕ)) (k : ℕ) → Each (λ (c : List ℕ). length c ≤ k) cs → total (lengths cs) ≤ k * length cs
@@ -147,7 +139,6 @@ module _ {file : List ℕ} {b left : Lent} {codes bands names : ℕ} (p : Accept
       (codesIn (take bands (left .code-run)) (take codes (left .code-lengths)))
 
   output-is : (written : files.Orders → List ℕ) → ofList written file ≡ written ordersIn
-  unfolding outputFor
   output-is written =
       let e : ordersIn ≡ files.orders 0 0 (p .ns) (p .cs) =
       rw (run-is, lengths-are, name-run-is, sizes-are, h .same-codes, h .same-names) in
@@ -157,10 +148,9 @@ module _ {file : List ℕ} {b left : Lent} {codes bands names : ℕ} (p : Accept
 pub refused-output : (written : files.Orders → List ℕ) {file : List ℕ} {b : Lent} {n row : ℕ} → 8192 ≤ length (b .code-run)
     → 128 ≤ length (b .code-lengths) → 3072 ≤ length (b .name-run) → 128 ≤ length (b .name-lengths) → Refuses file b n row
     → ofList written file ≡ refusedLine (refusal n row)
-unfolding outputFor
 refused-output written {n = n} k l m o (in-file x h) =
     let t = ne-eqb n 0 (omega arith) in
-    as-read written x ∙ rw (t, outputFor)
+    as-read written x ∙ rw (t, writtenFor)
 refused-output written {b = b} k l m o (in-buffers x s) = absurd (room-suffices (handed x) b k l m o s)
 
 pub accepted : (file : List ℕ) {b left : Lent} {r : Read} → ReadsOrders file b left r → {codes bands names : ℕ}
