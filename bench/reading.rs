@@ -1,7 +1,7 @@
 //! The calls that read files. They are not timed, since no other way stands beside them; the lists
 //! that are laid out say what they have to give.
 
-use crate::proved::{self, Orders};
+use crate::proved::ribbons::{read_orders, ribbon_of, Orders};
 use crate::reference::order_list;
 use crate::stack;
 use crate::work::Case;
@@ -13,17 +13,19 @@ pub fn peak_of_orders(case: &Case) -> Result<usize, String> {
     let mut lengths = vec![0; case.lengths.len()];
     let mut names = vec![0; case.names.len()];
     let mut sizes = vec![0; case.sizes.len()];
-    let mut orders = Orders::default();
+    let mut orders = None;
     let peak = stack::peak(&mut || {
-        orders = proved::read(&file, &mut bands, &mut lengths, &mut names, &mut sizes);
+        let read = read_orders(&file, &mut bands, &mut lengths, &mut names, &mut sizes);
+        orders = Some(read);
     });
     let expected = Orders {
+        refused: 0,
+        row: 0,
         codes: case.lengths.len() as u32,
         bands: case.bands.len() as u32,
         names: case.names.len() as u32,
-        ..Orders::default()
     };
-    let given = orders == expected
+    let given = orders == Some(expected)
         && bands == case.bands
         && lengths == case.lengths
         && names == case.names
@@ -39,7 +41,7 @@ pub fn peak_of_orders(case: &Case) -> Result<usize, String> {
 pub fn peak_of_ribbon(case: &Case) -> Result<usize, String> {
     let file = [&case.bands[..], b"\r\n"].concat();
     let mut length = 0;
-    let peak = stack::peak(&mut || length = proved::ribbon_of(&file));
+    let peak = stack::peak(&mut || length = ribbon_of(&file).len());
     if length == case.bands.len() {
         Ok(peak)
     } else {

@@ -13,7 +13,6 @@ pub struct Case {
 
 /// A check's answer: the refusal's number, or 0 and whether held; then the difference, or the
 /// number of the code that is missing.
-#[repr(C)]
 #[derive(Clone, Copy, Debug, Default, PartialEq)]
 pub struct Verdict {
     pub refused: u8,
