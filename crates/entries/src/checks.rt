@@ -113,7 +113,7 @@ fn entry_fault(name: &[u8], code: &[u8], names: &[u8], sizes: &[u16]) -> u8
     if lists::is_taken(name, names, sizes) {
         return lists::NAME_TAKEN;
     }
-    if 128 <= sizes.len() {
+    if lists::MOST_CODES <= sizes.len() {
         return lists::LIST_FULL;
     }
     0

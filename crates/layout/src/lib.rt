@@ -1,7 +1,5 @@
 // From a list of codes to its ribbon: contained codes dropped, faces put in order, the ribbon of that order written.
 ghost use mathlib.Core.Path.{_≡_};
-ghost use Prim.Native.Nat.{_≤_};
-ghost use lib.ListN.{length};
 ghost use Rattle.lists.specs.Refusals.{whole};
 ghost use Rattle.parts.specs.Parts.{InRun, partsOf};
 ghost use Rattle.layout.specs.Ribbons.{InOrder};
@@ -11,6 +9,7 @@ ghost use Rattle.layout.specs.Calls.{Gives, answerOf, orderOutcome, kept
 mod writing; // the ribbon of an order
 
 use faces::order_faces;
+use lists::MOST_CODES;
 use lists::Refusal;
 use parts::cut;
 use parts::keep;
@@ -78,11 +77,11 @@ pub fn lay_ribbon(bands: &[u8], lengths: &[u16], ribbon: &mut [u8]) -> Laid
     if !lists::list_ok(bands, lengths) {
         return refused(lists::FALSE_LIST);
     }
-    let mut starts = [0usize; 128];
-    let mut sizes = [0usize; 128];
+    let mut starts = [0usize; MOST_CODES];
+    let mut sizes = [0usize; MOST_CODES];
     cut(lengths, &mut starts, &mut sizes);
-    let mut kept_starts = [0usize; 128];
-    let mut kept_sizes = [0usize; 128];
+    let mut kept_starts = [0usize; MOST_CODES];
+    let mut kept_sizes = [0usize; MOST_CODES];
     let n = keep(
         bands,
         &starts,

@@ -4,6 +4,7 @@ ghost use Prim.Native.Nat.{_≤_};
 ghost use lib.ListN.{length};
 ghost use Rattle.lists.specs.Runs.{total};
 ghost use Rattle.lists.specs.Fit.{lengthsOk, listOk};
+use crate::limits::MOST_CODES;
 use crate::texts::all_bands;
 
 // Each length is 1 to 64.
@@ -46,7 +47,7 @@ pub fn list_ok(bands: &[u8], lengths: &[u16]) -> bool
     if lengths.len() < 1 {
         return false;
     }
-    if 128 < lengths.len() {
+    if MOST_CODES < lengths.len() {
         return false;
     }
     if !lengths_ok(lengths) {

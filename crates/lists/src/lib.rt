@@ -1,11 +1,18 @@
 // Lists of codes and of names as calls hand them over, and the rules for them.
 mod codes;
+mod limits; // of what is handed over
 mod names;
 mod numbers; // of refusals
 mod texts;
 
 pub use codes::list_ok;
 pub use codes::sum_of;
+pub use limits::MOST_BANDS;
+pub use limits::MOST_CODES;
+pub use limits::MOST_FILE_BYTES;
+pub use limits::MOST_NAME_BYTES;
+pub use limits::MOST_SHEET_BYTES;
+pub use limits::MOST_SUPPLIED_BANDS;
 pub use names::is_taken;
 pub use names::names_ok;
 pub use numbers::BAD_NAME;

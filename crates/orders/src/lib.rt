@@ -7,6 +7,8 @@ mod handover; // the lent buffers filled
 use entries::gather;
 use handover::hand_over;
 use handover::refused;
+use lists::MOST_CODES;
+use lists::MOST_FILE_BYTES;
 use lists::Refusal;
 
 // What reading an order list answers: refused; or how many codes there are, how many bands in them, and how many bytes
@@ -27,16 +29,16 @@ pub fn read_orders(
 ) -> Read
     ensures { λ r. ⌜ ReadsOrders (now (file .entry)) (lent (now (bands .entry)) (now (lengths .entry)) (now (names .entry)) (now (sizes .entry))) (lent (now (bands .exit)) (now (lengths .exit)) (now (names .exit)) (now (sizes .exit))) r ⌝ }
 {
-    if 16384 < file.len() {
+    if MOST_FILE_BYTES < file.len() {
         return refused(lists::LONG_FILE, 0);
     }
     if file.len() == 0 {
         return refused(lists::WRONG_HEADING, 0);
     }
-    let mut code_run = [0u8; 16384];
-    let mut code_lengths = [0u16; 128];
-    let mut name_run = [0u8; 16384];
-    let mut name_lengths = [0u16; 128];
+    let mut code_run = [0u8; MOST_FILE_BYTES];
+    let mut code_lengths = [0u16; MOST_CODES];
+    let mut name_run = [0u8; MOST_FILE_BYTES];
+    let mut name_lengths = [0u16; MOST_CODES];
     let all = gather(
         file,
         &mut code_run,

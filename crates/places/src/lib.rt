@@ -11,6 +11,7 @@ ghost use Rattle.places.specs.Calls.{FindsPlaces, ChecksInRoom, ChecksAl
 mod records; // the record of a code
 mod supplied; // refusals of what is supplied, and the difference
 
+use lists::MOST_CODES;
 use lists::Refusal;
 use records::is_nowhere;
 use records::place_of;
@@ -42,23 +43,23 @@ pub enum Checked {
 pub struct Findings {
     pub answer: Checked,
     pub due: usize,
-    pub records: [Place; 128],
+    pub records: [Place; MOST_CODES],
 }
 
 // The records of the codes that have a place, so many, at the front of a row.
 pub struct Sought {
     pub count: usize,
-    pub records: [Place; 128],
+    pub records: [Place; MOST_CODES],
 }
 
 // A row of records for the places of any list, none of them set.
-fn blank() -> [Place; 128]
+fn blank() -> [Place; MOST_CODES]
     ensures { λ r. ⌜ r ≡ blanks ⌝ }
 {
     [Place {
         code: 0,
         way: Way::Given(0),
-    }; 128]
+    }; MOST_CODES]
 }
 
 // The places of the codes of a fit list, in list order, until one has none.
@@ -140,6 +141,6 @@ pub fn check_places(bands: &[u8], lengths: &[u16], ribbon: &[u8], room: usize) -
 pub fn check_only(bands: &[u8], lengths: &[u16], ribbon: &[u8]) -> Checked
     ensures { λ r. ⌜ ChecksAlone (now (bands .entry)) (now (lengths .entry)) (now (ribbon .entry)) r ⌝ }
 {
-    let findings = check_places(bands, lengths, ribbon, 128);
+    let findings = check_places(bands, lengths, ribbon, MOST_CODES);
     findings.answer
 }

@@ -18,7 +18,7 @@ pub fn supplied_fault(bands: &[u8], lengths: &[u16], ribbon: &[u8]) -> u8
     if !lists::list_ok(bands, lengths) {
         return lists::FALSE_LIST;
     }
-    if 16384 < ribbon.len() {
+    if lists::MOST_SUPPLIED_BANDS < ribbon.len() {
         return lists::LONG_RIBBON;
     }
     if !lists::all_bands(ribbon) {
@@ -32,7 +32,7 @@ pub fn computed_length(bands: &[u8], lengths: &[u16]) -> usize
     requires { ⌜ listOk (now bands) (now lengths) ≡ true ⌝ }
     ensures { λ r. ⌜ r ≡ length (ribbonFor turned (codesIn (now (bands .entry)) (now (lengths .entry)))) ⌝ }
 {
-    let mut ribbon = [0u8; 8192];
+    let mut ribbon = [0u8; lists::MOST_BANDS];
     let laid = lay_ribbon(bands, lengths, &mut ribbon);
     match laid {
         Laid::Refused(_) => 0,

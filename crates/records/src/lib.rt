@@ -4,11 +4,12 @@ ghost use mathlib.Core.Path.{_≡_};
 ghost use lib.ListN.{length, take};
 ghost use Rattle.lists.specs.Runs.{over};
 ghost use Rattle.places.specs.Calls.{ChecksRibbon};
+use lists::MOST_CODES;
 use places::Checked;
 use places::Place;
 
 // The first records of a row, so many, over those that are lent.
-pub fn fill(all: [Place; 128], due: usize, places: &mut [Place])
+fn fill(all: [Place; MOST_CODES], due: usize, places: &mut [Place])
     requires { ⌜ (due ≤ 128) × (due ≤ length (now places)) ⌝ }
     ensures { λ _. ⌜ now (places .exit) ≡ over (take due all) (now (places .entry)) ⌝ }
 {

@@ -1,6 +1,5 @@
 // The crate that others link: the public calls under one roof, and for each program the call that computes its output.
 mod check_printing; // the check program's output
-mod limits; // sizes that always suffice
 mod ribbon_printing; // the ribbon program's
 mod sheet_printing; // the sheet program's
 
@@ -40,12 +39,12 @@ pub use lists::UNKNOWN_COLOUR;
 pub use lists::WRONG_HEADING;
 pub use lists::WRONG_WIDTH;
 // sizes that always suffice
-pub use limits::MOST_BANDS;
-pub use limits::MOST_CODES;
-pub use limits::MOST_FILE_BYTES;
-pub use limits::MOST_NAME_BYTES;
-pub use limits::MOST_SHEET_BYTES;
-pub use limits::MOST_SUPPLIED_BANDS;
+pub use lists::MOST_BANDS;
+pub use lists::MOST_CODES;
+pub use lists::MOST_FILE_BYTES;
+pub use lists::MOST_NAME_BYTES;
+pub use lists::MOST_SHEET_BYTES;
+pub use lists::MOST_SUPPLIED_BANDS;
 // what the programs write
 pub use check_printing::check_output;
 pub use ribbon_printing::ribbon_output;

@@ -10,12 +10,12 @@ ghost use Rattle.lists.specs.Fit.{listOk};
 ghost use Rattle.grammar.specs.Files.{lineBreak};
 ghost use Rattle.greedy.specs.Layout.{ribbonFor};
 ghost use Rattle.programs.specs.Programs.{ribbonOutput, WritesOver};
-use crate::limits::MOST_BANDS;
-use crate::limits::MOST_CODES;
-use crate::limits::MOST_NAME_BYTES;
 use layout::Laid;
 use layout::lay_ribbon;
 use lines::refused_line;
+use lists::MOST_BANDS;
+use lists::MOST_CODES;
+use lists::MOST_NAME_BYTES;
 use orders::Read;
 use orders::read_orders;
 

@@ -7,6 +7,7 @@ ghost use Rattle.sheets.specs.Sheet.{rowText, sheetHeading};
 ghost use Rattle.sheet_rows.specs.Placed.{RowsThere, wayText, startOf, wayRow, nthRow};
 use fields::put_decimal;
 use fields::put_field;
+use lists::MOST_CODES;
 use lists::sum_of;
 use places::Place;
 use places::Way;
@@ -60,7 +61,7 @@ pub fn put_nth(
     names: &[u8],
     sizes: &[u16],
     lengths: &[u16],
-    records: [Place; 128],
+    records: [Place; MOST_CODES],
     ribbon: &[u8],
     i: usize,
     out: &mut [u8],

@@ -7,6 +7,7 @@ ghost use Rattle.sheet_rows.specs.Placed.{RowsThere, wayText, startOf, w
 use crate::rows::start_of;
 use fields::decimal_size;
 use fields::field_size;
+use lists::MOST_CODES;
 use places::Place;
 use places::Way;
 
@@ -34,7 +35,7 @@ pub fn sheet_size(
     names: &[u8],
     sizes: &[u16],
     lengths: &[u16],
-    records: [Place; 128],
+    records: [Place; MOST_CODES],
     ribbon: &[u8],
 ) -> usize
     requires { ⌜ RowsThere (now names) (now sizes) (now lengths) records (now ribbon) ⌝ }

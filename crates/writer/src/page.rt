@@ -1,4 +1,4 @@
-// The sheet, row after row, through a writer. Functions of sheets do the writing; those here carry the writer from one to
+// The sheet, row after row, through a writer. Functions of sheet_rows do the writing; those here carry the writer from one to
 // the next, each proved by a walk of its MIR.
 ghost use mathlib.Core.Path.{_≡_};
 ghost use Prim.Native.Nat.{_+_, _<_, _≤_};
@@ -9,6 +9,7 @@ ghost use Rattle.sheets.specs.Sheet.{rowText, sheetHeading};
 ghost use Rattle.sheet_rows.specs.Placed.{RowsThere, nthRow, placedRows, placedSheet};
 ghost use Rattle.writer.specs.Calls.{PutsSheet};
 ghost use Rattle.writer.specs.Filled.{filled};
+use lists::MOST_CODES;
 use places::Place;
 use sheet_rows::put_heading;
 use sheet_rows::put_nth;
@@ -45,7 +46,7 @@ fn row<'a>(
     names: &[u8],
     sizes: &[u16],
     lengths: &[u16],
-    records: [Place; 128],
+    records: [Place; MOST_CODES],
     ribbon: &[u8],
     i: usize,
 ) -> Writer<'a>
@@ -66,7 +67,7 @@ fn rows<'a>(
     names: &[u8],
     sizes: &[u16],
     lengths: &[u16],
-    records: [Place; 128],
+    records: [Place; MOST_CODES],
     ribbon: &[u8],
 ) -> usize
     requires { ⌜ RowsThere (now names) (now sizes) (now lengths) records (now ribbon) × (w .mark + length (placedRows (codesIn (now names) (now sizes)) (now lengths) records (now ribbon)) ≤ length (now (w .out))) ⌝ }
@@ -86,7 +87,7 @@ pub fn put_sheet(
     names: &[u8],
     sizes: &[u16],
     lengths: &[u16],
-    records: [Place; 128],
+    records: [Place; MOST_CODES],
     ribbon: &[u8],
     out: &mut [u8],
 ) -> usize
