@@ -1,5 +1,4 @@
 // The order that the joins give: the piece that holds face 0, read from its first face on.
-ghost use mathlib.Core.Path.{_≡_};
 ghost use Prim.Native.Nat.{_*_, _≤_, _<_};
 ghost use lib.ListN.{length};
 ghost use Rattle.joins.specs.Rows.{Row, WrotePiece, WroteOrder};

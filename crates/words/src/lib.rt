@@ -11,6 +11,5 @@ pub use endings::overlap;
 pub use search::Found;
 pub use search::find_place;
 pub use starts::stands;
-pub use starts::stands_way;
 pub use writing::put_way;
 pub use writing::put_word;

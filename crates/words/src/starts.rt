@@ -16,7 +16,7 @@ fn begins_way(c: &[u8], turned: bool, s: &[u8]) -> bool
 }
 
 // A way of c stands at some start of s. A word of no bands stands at the end too.
-pub fn stands_way(c: &[u8], turned: bool, s: &[u8]) -> bool
+fn stands_way(c: &[u8], turned: bool, s: &[u8]) -> bool
     ensures { λ r. ⌜ r ≡ standsIn (wayOf turned (now (c .entry))) (now (s .entry)) ⌝ }
 {
     let mut i = 0;

@@ -9,7 +9,7 @@ mod page; // the rows of a sheet
 use layout::Laid;
 use layout::lay_ribbon;
 use lists::Refusal;
-pub use page::put_sheet;
+use page::put_sheet;
 use places::find_places;
 use sheet_rows::sheet_size;
 
@@ -73,7 +73,7 @@ pub fn write_sheet(
     if !lists::names_ok(lengths.len(), names, sizes) {
         return refused(lists::FALSE_LIST);
     }
-    let mut ribbon = [0u8; 8192];
+    let mut ribbon = [0u8; lists::MOST_BANDS];
     let laid = lay_ribbon(bands, lengths, &mut ribbon);
     match laid {
         Laid::Refused(r) => Wrote::Refused(r),
