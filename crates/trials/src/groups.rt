@@ -2,13 +2,13 @@
 use crate::case_lines::file_line;
 use crate::case_lines::list_line;
 use crate::case_lines::pair_line;
+use crate::forms::say_form;
 use crate::line_fields::field;
 use crate::line_fields::number_in;
 use crate::making::make_case;
 use crate::tally::Tally;
 use crate::tally::feed;
 use crate::tally::say;
-use crate::tally::say_number;
 use crate::tally::say_word;
 use crate::total::find;
 use crate::total::look;
@@ -16,8 +16,9 @@ use crate::total::part;
 use crate::total::plus;
 use std::num::wrapping_add_u64;
 
-// Which texts are printed, `a` for all, `f` for the first of each group, else none; whether the next one is; the title's part of the
-// file, at 0 before the first group; the group's cases and their checksum; all cases, and the checksum over the groups'.
+// Which texts are printed, `a` for all, `f` for the first of each group, else none; whether the next one is; the title's part
+// of the file, at 0 before the first group; the group's cases and their checksum; all cases, and the checksum over the
+// groups'.
 struct Run {
     mode: u8,
     loud: bool,
@@ -36,8 +37,7 @@ fn printed() -> Tally {
 
 // A line of a title, a count and a checksum is printed.
 fn show_line(title: &[u8], count: u64, sum: u64) {
-    let t = say(say_word(printed(), title), b',');
-    say(say_number(say(say_number(t, count), b','), sum), b'\n');
+    say_form(say_word(printed(), title), b",#,#\n", count, sum, 0);
 }
 
 // The group ends, if there is one; the answer is the checksum over the groups'.
