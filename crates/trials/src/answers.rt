@@ -1,12 +1,12 @@
 // The answers of calls, said.
-use crate::forms::say_form;
-use crate::tally::Tally;
-use crate::tally::say_word;
 use ribbons::Checked;
 use ribbons::Laid;
 use ribbons::Read;
 use ribbons::Refusal;
 use ribbons::Wrote;
+use telling::Tally;
+use telling::say_form;
+use telling::say_word;
 
 // The end of the line of a refusal.
 fn say_refused(t: Tally, r: Refusal) -> Tally {

@@ -1,12 +1,12 @@
 // The cases that stand written out in the file of cases, a line each.
 use crate::file_case::run_file;
-use crate::lent::MOST_BYTES;
-use crate::lent::MOST_NUMBERS;
-use crate::line_fields::bytes_in;
-use crate::line_fields::numbers_in;
 use crate::list_case::run_list;
 use crate::pair_case::run_pair;
-use crate::tally::Tally;
+use cases::bytes_in;
+use cases::numbers_in;
+use telling::MOST_BYTES;
+use telling::MOST_NUMBERS;
+use telling::Tally;
 
 // The case of a line `file FILE ROOMS`.
 pub fn file_line(t: Tally, k: u64, line: &[u8]) -> Tally {

@@ -1,20 +1,20 @@
 // A case of an order list: reading it, and what the ribbon program and the sheet program write.
 use crate::answers::say_read;
-use crate::forms::say_form;
-use crate::lent::MOST_BYTES;
-use crate::lent::MOST_NUMBERS;
-use crate::lent::fill_bytes;
-use crate::lent::lend_bytes;
-use crate::lent::lend_numbers;
-use crate::lent::room;
-use crate::lent::tell_bytes;
-use crate::lent::tell_numbers;
-use crate::plain::bytes_line;
-use crate::tally::Tally;
-use crate::total::front;
-use crate::total::front_numbers;
+use cases::front;
+use cases::front_numbers;
 use ribbons::MOST_SHEET_BYTES;
 use ribbons::Read;
+use telling::MOST_BYTES;
+use telling::MOST_NUMBERS;
+use telling::Tally;
+use telling::bytes_line;
+use telling::fill_bytes;
+use telling::lend_bytes;
+use telling::lend_numbers;
+use telling::room;
+use telling::say_form;
+use telling::tell_bytes;
+use telling::tell_numbers;
 
 // How much was read; nothing where that was refused.
 struct Counts {

@@ -2,19 +2,19 @@
 use crate::case_lines::file_line;
 use crate::case_lines::list_line;
 use crate::case_lines::pair_line;
-use crate::forms::say_form;
-use crate::line_fields::field;
-use crate::line_fields::number_in;
 use crate::making::make_case;
-use crate::tally::Tally;
-use crate::tally::feed;
-use crate::tally::say;
-use crate::tally::say_word;
-use crate::total::find;
-use crate::total::look;
-use crate::total::part;
-use crate::total::plus;
+use cases::field;
+use cases::find;
+use cases::look;
+use cases::number_in;
+use cases::part;
+use cases::plus;
 use std::num::wrapping_add_u64;
+use telling::Tally;
+use telling::feed;
+use telling::say;
+use telling::say_form;
+use telling::say_word;
 
 // Which texts are printed, `a` for all, `f` for the first of each group, else none; whether the next one is; the title's part
 // of the file, at 0 before the first group; the group's cases and their checksum; all cases, and the checksum over the

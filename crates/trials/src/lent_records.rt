@@ -1,16 +1,16 @@
 // Lent place records: what they hold before a call, and what is told of them after it.
-use crate::forms::one_if;
-use crate::forms::say_form;
-use crate::lent::Rest;
-use crate::lent::say_kept;
 use crate::recorded::MOST_RECORDS;
-use crate::tally::Tally;
-use crate::tally::feed;
-use crate::tally::say;
-use crate::total::plus;
+use cases::plus;
 use ribbons::MOST_CODES;
 use ribbons::Place;
 use ribbons::Way;
+use telling::Rest;
+use telling::Tally;
+use telling::feed;
+use telling::one_if;
+use telling::say;
+use telling::say_form;
+use telling::say_kept;
 
 // A record in which nothing is set.
 fn blank() -> Place {

@@ -3,24 +3,24 @@ ghost use Prim.Native.Nat.{_≤_};
 use crate::answers::say_checked;
 use crate::answers::say_laid;
 use crate::answers::say_wrote;
-use crate::forms::say_form;
-use crate::lent::MOST_BYTES;
-use crate::lent::lend_bytes;
-use crate::lent::room;
-use crate::lent::tell_bytes;
 use crate::lent_records::blank_records;
 use crate::lent_records::marked_records;
 use crate::lent_records::tell_records;
 use crate::lent_records::widened;
-use crate::plain::bytes_line;
-use crate::plain::numbers_line;
 use crate::recorded::MOST_RECORDS;
 use crate::recorded::check_front;
-use crate::tally::Tally;
 use ribbons::Checked;
 use ribbons::Laid;
 use ribbons::MOST_CODES;
 use ribbons::Wrote;
+use telling::MOST_BYTES;
+use telling::Tally;
+use telling::bytes_line;
+use telling::lend_bytes;
+use telling::numbers_line;
+use telling::room;
+use telling::say_form;
+use telling::tell_bytes;
 
 // The list, its names and the supplied ribbon.
 fn say_list(

@@ -2,27 +2,14 @@
 // with a count and a checksum over all that the calls did. The argument `first` has the texts of each group's first case
 // printed too, `all` those of all cases.
 mod answers; // of calls, said
-mod bands; // drawn and copied
 mod case_lines; // cases written out
-mod codes; // of a generated list
-mod draws;
-mod families; // of generated lists
 mod file_case;
-mod forms; // of lines
 mod groups; // the file of cases, line by line
-mod lent; // buffers before and after a call
 mod lent_records; // place records before and after a call
-mod line_fields; // of a line
 mod list_case;
 mod making; // a generated case
-mod names; // of a generated list
 mod pair_case;
-mod plain; // bytes and numbers, said
 mod recorded; // a check into lent records
-mod rooms; // of a generated case
-mod supplied; // its ribbon
-mod tally; // the checksum
-mod total; // looks, stores and parts for every index
 
 use groups::run_lines;
 use libc::STDIN_FILENO;

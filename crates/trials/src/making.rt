@@ -1,12 +1,11 @@
 // A generated case: its list, its names, its ribbon and its rooms made, and run.
-use crate::codes::make_codes;
 use crate::list_case::run_list;
-use crate::names::make_names;
-use crate::rooms::draw_rooms;
-use crate::supplied::supply;
-use crate::tally::Tally;
-use crate::total::front;
-use crate::total::front_numbers;
+use cases::draw_rooms;
+use cases::front;
+use cases::front_numbers;
+use cases::make_codes;
+use cases::make_names;
+use cases::supply;
 use ribbons::Laid;
 use ribbons::MOST_BANDS;
 use ribbons::MOST_CODES;
@@ -15,6 +14,7 @@ use ribbons::MOST_SHEET_BYTES;
 use ribbons::Wrote;
 use ribbons::lay_ribbon;
 use ribbons::write_sheet;
+use telling::Tally;
 
 // all bands, and the chains' word behind them
 const BANDS_ROOM: usize = MOST_BANDS + 128;

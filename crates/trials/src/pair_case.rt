@@ -1,9 +1,9 @@
 // A case of an order list and a ribbon file: the part of the file that is the ribbon, and what the check program writes.
-use crate::forms::say_form;
-use crate::lent::fill_bytes;
-use crate::lent::tell_bytes;
-use crate::plain::bytes_line;
-use crate::tally::Tally;
+use telling::Tally;
+use telling::bytes_line;
+use telling::fill_bytes;
+use telling::say_form;
+use telling::tell_bytes;
 
 // The check program's output, in a row that is lent for it.
 fn tell_output(t: Tally, list: &[u8], ribbon: &[u8], out: &mut [u8; 32]) -> Tally {
