@@ -84,10 +84,10 @@ fn fields_fault(
 fn head_fault(name: &[u8], code: &[u8]) -> u8
     ensures { λ r. ⌜ r ≡ headFault (now (name .entry)) (now (code .entry)) ⌝ }
 {
-    if !words::same(name, b"name") {
+    if !matching::same(name, b"name") {
         return lists::WRONG_HEADING;
     }
-    if !words::same(code, b"code") {
+    if !matching::same(code, b"code") {
         return lists::WRONG_HEADING;
     }
     0

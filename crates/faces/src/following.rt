@@ -22,7 +22,7 @@ fn lower(after: &[usize], head: usize, other: usize, b: usize, best: usize) -> u
     if b == other {
         return best;
     }
-    if after[joins::mirror_of(b)] == 0 {
+    if after[joining::mirror_of(b)] == 0 {
         return b;
     }
     best
@@ -72,5 +72,5 @@ pub fn lowest_following(
     }
     let low = first_place(bands, starts, sizes, sorted, 0, m, a, o, 1);
     let high = range_end(bands, starts, sizes, sorted, low, m, a, o);
-    lowest_among(sorted, after, m, head, joins::mirror_of(a), low, high)
+    lowest_among(sorted, after, m, head, joining::mirror_of(a), low, high)
 }

@@ -27,12 +27,12 @@ fn join_from(
     if after[a] != 0 {
         return;
     }
-    let head = joins::mirror_of(joins::end_from(after, n, joins::mirror_of(a)));
+    let head = joining::mirror_of(joining::end_from(after, n, joining::mirror_of(a)));
     let b = lowest_following(bands, starts, sizes, n, sorted, after, a, o, head);
     if 2 * n <= b {
         return;
     }
-    joins::make_join(after, a, b);
+    joining::make_join(after, a, b);
 }
 
 // All joins with overlap o.
@@ -89,5 +89,5 @@ pub fn order_faces(
     sort_faces(bands, starts, sizes, n, &mut sorted);
     let mut after = [0usize; 256];
     run_pass(bands, starts, sizes, n, &sorted, &mut after);
-    joins::write_order(&after, n, order)
+    joining::write_order(&after, n, order)
 }

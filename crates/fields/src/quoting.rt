@@ -38,7 +38,7 @@ fn put_byte(b: u8, out: &mut [u8], at: usize) -> usize
     ensures { λ r. ⌜ Written (now (out .entry)) at (doubledQuotes (b ∷ [])) (now (out .exit)) r ⌝ }
 {
     if b == 34 {
-        return words::put_word(b"\"\"", out, at);
+        return matching::put_word(b"\"\"", out, at);
     }
     out[at] = b;
     at + 1
@@ -64,11 +64,11 @@ pub fn put_field(name: &[u8], out: &mut [u8], at: usize) -> usize
     ensures { λ r. ⌜ Written (now (out .entry)) at (fieldText (now (name .entry))) (now (out .exit)) r ⌝ }
 {
     if !needs_quotes(name) {
-        return words::put_word(name, out, at);
+        return matching::put_word(name, out, at);
     }
-    let mut end = words::put_word(b"\"", out, at);
+    let mut end = matching::put_word(b"\"", out, at);
     end = put_doubled(name, out, end);
-    words::put_word(b"\"", out, end)
+    matching::put_word(b"\"", out, end)
 }
 
 fn byte_size(b: u8) -> usize

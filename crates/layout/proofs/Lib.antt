@@ -1,4 +1,3 @@
--- Reading an order face by face, the stages put together, and what the call means.
-pub mod Steps
+-- The stages put together, and what the call means.
 pub mod Stages
 pub mod Calls

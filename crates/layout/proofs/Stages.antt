@@ -24,7 +24,7 @@ use Rattle.greedy.specs.Dropping.{kept}
 use Rattle.greedy.specs.Reading.{shared}
 use Rattle.greedy.specs.Layout.{ribbonFor, savedBy, isStuck, orderFor}
 use Rattle.parts.specs.Parts.{partsOf, partShared, InRun}
-use Rattle.layout.specs.Ribbons.{InOrder, Measures, partRibbon}
+use Rattle.spelling.specs.Ribbons.{InOrder, Measures, partRibbon}
 use Rattle.greedy.specs.Answers.{LayOutcome, layOutcome}
 use Rattle.layout.specs.Calls.{Gives, answerOf, orderOutcome, keptOutcome}
 use Rattle.greedy.specs.Answers as a

@@ -1,3 +1,2 @@
--- The ribbon that an order gives, and what the call that lays out a list promises.
-pub mod Ribbons
+-- What the call that lays out a list promises.
 pub mod Calls

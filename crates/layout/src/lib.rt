@@ -2,19 +2,16 @@
 ghost use mathlib.Core.Path.{_≡_};
 ghost use Rattle.lists.specs.Refusals.{whole};
 ghost use Rattle.parts.specs.Parts.{InRun, partsOf};
-ghost use Rattle.layout.specs.Ribbons.{InOrder};
+ghost use Rattle.spelling.specs.Ribbons.{InOrder};
 ghost use Rattle.greedy.specs.Answers as a;
 ghost use Rattle.layout.specs.Calls.{Gives, answerOf, orderOutcome, keptOutcome, LaysRibbon};
-
-mod writing; // the ribbon of an order
-
 use faces::order_faces;
 use lists::MOST_CODES;
 use lists::Refusal;
 use parts::cut;
 use parts::keep;
-use writing::measure;
-use writing::write_bands;
+use spelling::measure;
+use spelling::write_bands;
 
 // A ribbon's length and what it saves; or the refusal, 12, 14 or 13.
 pub enum Laid {

@@ -14,11 +14,11 @@ pub fn refused_line(r: lists::Refusal, row: &mut [u8]) -> usize
     ensures { λ n. ⌜ (n ≡ length (refusedLine (refusalOf r))) × (now (row .exit) ≡ over (refusedLine (refusalOf r)) (now (row .entry))) ⌝ }
 {
     let number = r.number as u32;
-    let mut at = words::put_word(b"refused,", row, 0);
+    let mut at = matching::put_word(b"refused,", row, 0);
     at = fields::put_decimal(number, row, at);
-    at = words::put_word(b",", row, at);
+    at = matching::put_word(b",", row, at);
     at = fields::put_decimal(r.row, row, at);
-    words::put_word(b"\r\n", row, at)
+    matching::put_word(b"\r\n", row, at)
 }
 
 // How far a number is from zero; in 64 bits, since the lowest number of 32 has no opposite there.
@@ -41,7 +41,7 @@ fn put_signed(d: i32, row: &mut [u8], at: usize) -> usize
     if 0 <= d {
         return fields::put_decimal(size, row, at);
     }
-    let from = words::put_word(b"-", row, at);
+    let from = matching::put_word(b"-", row, at);
     fields::put_decimal(size, row, from)
 }
 
@@ -50,9 +50,9 @@ pub fn held_line(d: i32, row: &mut [u8]) -> usize
     requires { ⌜ 32 ≤ length (now row) ⌝ }
     ensures { λ n. ⌜ (n ≡ length (heldLine d)) × (now (row .exit) ≡ over (heldLine d) (now (row .entry))) ⌝ }
 {
-    let mut at = words::put_word(b"held,", row, 0);
+    let mut at = matching::put_word(b"held,", row, 0);
     at = put_signed(d, row, at);
-    words::put_word(b"\r\n", row, at)
+    matching::put_word(b"\r\n", row, at)
 }
 
 // The line of a ribbon on which the code of this number has no place.
@@ -60,7 +60,7 @@ pub fn missing_line(k: u32, row: &mut [u8]) -> usize
     requires { ⌜ 32 ≤ length (now row) ⌝ }
     ensures { λ n. ⌜ (n ≡ length (missingLine k)) × (now (row .exit) ≡ over (missingLine k) (now (row .entry))) ⌝ }
 {
-    let mut at = words::put_word(b"missing,", row, 0);
+    let mut at = matching::put_word(b"missing,", row, 0);
     at = fields::put_decimal(k, row, at);
-    words::put_word(b"\r\n", row, at)
+    matching::put_word(b"\r\n", row, at)
 }

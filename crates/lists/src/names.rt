@@ -16,7 +16,7 @@ pub fn is_taken(name: &[u8], names: &[u8], sizes: &[u16]) -> bool
     let mut k = 0;
     while k < sizes.len() {
         let to = from + sizes[k] as usize;
-        if words::same(name, &names[from..to]) {
+        if matching::same(name, &names[from..to]) {
             return true;
         }
         from = to;

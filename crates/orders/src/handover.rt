@@ -61,9 +61,9 @@ pub fn hand_over(
     if lacks(all, bands.len(), lengths.len(), names.len(), sizes.len()) {
         return refused(lists::SHORT_BUFFER, 0);
     }
-    words::put_word(&code_run[..band_count], bands, 0);
+    matching::put_word(&code_run[..band_count], bands, 0);
     copy_lengths(code_lengths, codes, lengths);
-    words::put_word(&name_run[..name_count], names, 0);
+    matching::put_word(&name_run[..name_count], names, 0);
     copy_lengths(name_lengths, codes, sizes);
     Read::Orders {
         codes: codes as u32,

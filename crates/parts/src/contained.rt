@@ -28,7 +28,7 @@ fn held_by(bands: &[u8], starts: &[usize], sizes: &[usize], n: usize, i: usize, 
     let c = part(bands, starts, sizes, i);
     let s = part(bands, starts, sizes, j);
     if outranks_by(s.len(), j, c.len(), i) {
-        return words::stands(c, s);
+        return matching::stands(c, s);
     }
     false
 }

@@ -27,7 +27,7 @@ fn ribbon_line(bands: &[u8], lengths: &[u16], out: &mut [u8]) -> usize
     let laid = lay_ribbon(bands, lengths, out);
     match laid {
         Laid::Refused(r) => refused_line(r, out),
-        Laid::Ribbon { bands: n, saved: _ } => words::put_word(b"\r\n", out, n as usize),
+        Laid::Ribbon { bands: n, saved: _ } => matching::put_word(b"\r\n", out, n as usize),
     }
 }
 

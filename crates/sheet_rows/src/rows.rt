@@ -17,7 +17,7 @@ pub fn put_heading(out: &mut [u8], at: usize) -> usize
     requires { ⌜ at + 22 ≤ length (now out) ⌝ }
     ensures { λ r. ⌜ Written (now (out .entry)) at (rowText sheetHeading) (now (out .exit)) r ⌝ }
 {
-    words::put_word(b"name,way,start,bands\r\n", out, at)
+    matching::put_word(b"name,way,start,bands\r\n", out, at)
 }
 
 // The start of a place.
@@ -36,8 +36,8 @@ fn put_way(way: Way, out: &mut [u8], at: usize) -> usize
     ensures { λ r. ⌜ Written (now (out .entry)) at (wayText way) (now (out .exit)) r ⌝ }
 {
     match way {
-        Way::Given(_) => words::put_word(b",given,", out, at),
-        Way::Turned(_) => words::put_word(b",turned,", out, at),
+        Way::Given(_) => matching::put_word(b",given,", out, at),
+        Way::Turned(_) => matching::put_word(b",turned,", out, at),
     }
 }
 
@@ -51,9 +51,9 @@ fn put_row(name: &[u8], n: usize, way: Way, ribbon: &[u8], out: &mut [u8], at: u
     let mut end = put_field(name, out, at);
     end = put_way(way, out, end);
     end = put_decimal(number, out, end);
-    end = words::put_word(b",", out, end);
-    end = words::put_word(&ribbon[start..start + n], out, end);
-    words::put_word(b"\r\n", out, end)
+    end = matching::put_word(b",", out, end);
+    end = matching::put_word(&ribbon[start..start + n], out, end);
+    matching::put_word(b"\r\n", out, end)
 }
 
 // The row of code i is written from `at` on; the answer is the place behind it. The name starts behind those before it.

@@ -19,8 +19,8 @@ fn side(c: &[u8], turned: bool, d: &[u8], other: bool, o: usize) -> usize
         if c.len() <= i {
             return 0;
         }
-        let y = words::band_at(c, turned, i);
-        let x = words::band_at(d, other, start + i);
+        let y = matching::band_at(c, turned, i);
+        let x = matching::band_at(d, other, start + i);
         if y < x {
             return 0;
         }

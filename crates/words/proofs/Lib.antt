@@ -9,8 +9,4 @@ pub mod Placing
 pub mod Ways
 pub mod Written
 pub mod Partly
-pub mod Comparing
-pub mod Trying
-pub mod Seeking
-pub mod Searching
 pub mod Impostors

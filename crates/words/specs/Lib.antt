@@ -9,4 +9,3 @@ pub mod Stand
 pub mod Overlap
 pub mod Place
 pub mod Texts
-pub mod Answers

@@ -32,7 +32,8 @@ use Rattle.sheets.specs.Answers.{SheetAnswer, SheetOutcome, refused, written, S
 use Rattle.sheet_rows.proofs.Placed.{placed-is-sheet, rows-there}
 use Rattle.sheets.proofs.Room.{sheet-at-most}
 use Rattle.sheets.proofs.Answers.{if-tests, sheets-ours}
-use Rattle.writer.specs.Calls.{answerOf, WritesSheet, PutsSheet, Ready, laidOutcome, Gives}
+use Rattle.pages.specs.Pages.{PutsSheet}
+use Rattle.writer.specs.Calls.{answerOf, WritesSheet, Ready, laidOutcome, Gives}
 use Rattle.writer.specs.declared.Wrote.{Wrote}
 use Rattle.writer.specs.declared.Wrote.the-variants.{Sheet}
 

@@ -27,11 +27,6 @@ pub record WritesSheet (run ls name-run name-ls before after : List ℕ) (r : Wr
   pub left : after ≡ sheetOutcome run ls name-run name-ls before .after
   pub means : SheetsInto run ls name-run name-ls before (outcome (answerOf r) after)
 
--- A text written at the beginning of a lent buffer, with its length.
-pub record PutsSheet (sheet before after : List ℕ) (r : ℕ) : Type 0 where
-  pub long : r ≡ length sheet
-  pub left : after ≡ over sheet before
-
 -- The stage behind the layout: a fit list with its ribbon, whose sheet is written where it fits.
 pub record Ready (run ls name-run name-ls ribbon : List ℕ) : Type 0 where
   pub list-fits : listOk run ls ≡ true

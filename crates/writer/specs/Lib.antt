@@ -1,3 +1,2 @@
--- What the calls that write a sheet promise, and what the writer is that they carry.
+-- What the call that writes a sheet promises.
 pub mod Calls
-pub mod Filled

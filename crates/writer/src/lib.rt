@@ -3,13 +3,10 @@ ghost use mathlib.Core.Path.{_≡_};
 ghost use Rattle.lists.specs.Refusals.{whole};
 ghost use Rattle.sheets.specs.Answers as a;
 ghost use Rattle.writer.specs.Calls.{answerOf, Ready, Gives, laidOutcome, WritesSheet};
-
-mod page; // the rows of a sheet
-
 use layout::Laid;
 use layout::lay_ribbon;
 use lists::Refusal;
-use page::put_sheet;
+use pages::put_sheet;
 use places::find_places;
 use sheet_rows::sheet_size;
 

@@ -1,0 +1,2 @@
+-- What a search for the place of a word answers.
+pub mod Answers

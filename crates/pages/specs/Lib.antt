@@ -1,0 +1,3 @@
+-- What a writer is, and what it leaves.
+pub mod Filled
+pub mod Pages

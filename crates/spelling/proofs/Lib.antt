@@ -1,0 +1,2 @@
+-- Reading an order face by face.
+pub mod Steps

@@ -1,0 +1,2 @@
+-- The ribbon that an order gives.
+pub mod Ribbons
