@@ -19,7 +19,7 @@ use Rattle.grammar.specs.Orders.{nameIn, codeIn, headFault, entryFault, rowFaul
 use Rattle.rows.specs.Scans.{partOf, ReadsRow}
 use Rattle.entries.specs.Gathering.{fieldsFault, ChecksRow}
 use Rattle.rows.specs.declared.scan.RowRead.{RowRead}
-use Rattle.lists.proofs.Passing.{upTo, part-to}
+use Rattle.lists.proofs.Runs.{upTo, part-to}
 
 module _ (ofTwo : List ℕ → List ℕ → ℕ) (x : Row) where
   fault-broken : x .good ≡ false → rowFault ofTwo x ≡ brokenRow

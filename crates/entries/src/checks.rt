@@ -98,7 +98,7 @@ fn entry_fault(name: &[u8], code: &[u8], names: &[u8], sizes: &[u16]) -> u8
     requires { ⌜ total (now sizes) ≤ length (now names) ⌝ }
     ensures { λ r. ⌜ r ≡ entryFault (codesIn (now (names .entry)) (now (sizes .entry))) (now (name .entry)) (now (code .entry)) ⌝ }
 {
-    if !lists::name_ok(name) {
+    if !fitness::name_ok(name) {
         return lists::BAD_NAME;
     }
     if code.len() == 0 {
@@ -107,10 +107,10 @@ fn entry_fault(name: &[u8], code: &[u8], names: &[u8], sizes: &[u16]) -> u8
     if 64 < code.len() {
         return lists::LONG_CODE;
     }
-    if !lists::all_bands(code) {
+    if !fitness::all_bands(code) {
         return lists::UNKNOWN_COLOUR;
     }
-    if lists::is_taken(name, names, sizes) {
+    if fitness::is_taken(name, names, sizes) {
         return lists::NAME_TAKEN;
     }
     if lists::MOST_CODES <= sizes.len() {

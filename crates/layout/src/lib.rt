@@ -71,7 +71,7 @@ fn lay_kept(bands: &[u8], starts: &[usize], sizes: &[usize], n: usize, ribbon: &
 pub fn lay_ribbon(bands: &[u8], lengths: &[u16], ribbon: &mut [u8]) -> Laid
     ensures { λ r. ⌜ LaysRibbon (now (bands .entry)) (now (lengths .entry)) (now (ribbon .entry)) (now (ribbon .exit)) r ⌝ }
 {
-    if !lists::list_ok(bands, lengths) {
+    if !fitness::list_ok(bands, lengths) {
         return refused(lists::FALSE_LIST);
     }
     let mut starts = [0usize; MOST_CODES];

@@ -1,12 +1,12 @@
 -- A run cut into words and joined again is as before, and words joined into a run and cut again are as before: each by
--- induction over the words, or over their lengths.
+-- induction over the words, or over their lengths. And the part of a run between two marks.
 use mathlib.Core.Path.{_≡_, refl, ap, _∙_}
 use mathlib.Core.List.{List, [], _∷_, _++_, append-assoc}
-use Prim.Native.Nat.{ℕ, suc, _+_, _≤_, _<_}
+use Prim.Native.Nat.{ℕ, suc, _+_, _-_, _≤_, _<_}
 use native.Mathlib.Numerals.{add-one}
 use native.Mathlib.Omega.{arith}
 use lib.ListN.{length, getD, take, drop, set, length-append, length-drop, take-append-drop}
-use lib.Seq.{length-take-le, take-at, take-suc, drop-at, drop-cons, set-at}
+use lib.Seq.{length-take-le, take-all, take-at, take-suc, drop-at, drop-cons, set-at}
 use Rattle.words.specs.Written.{Written}
 use Rattle.lists.specs.Runs.{codesIn, total, flat, lengths, over}
 
@@ -68,3 +68,13 @@ module _ {A : Type 0} (all ys : List A) (i : ℕ) where
       omega (arith, length-append (take i all) (getD all i d ∷ [])) in
       rw (add-one, take-suc all i d h, m, l, drop-cons ys i d k, append-assoc)
       (set-at (take i all) (getD ys i d) (drop (suc i) ys) (getD all i d) i l)
+
+-- the part of a run from a mark to an end
+abbrev pub upTo : List ℕ → ℕ → ℕ → List ℕ
+upTo run mark end = take (end - mark) (drop mark run)
+
+pub part-to : (run : List ℕ) (mark size : ℕ) → upTo run mark (mark + size) ≡ take size (drop mark run)
+part-to run mark size = let e : (mark + size) - mark ≡ size = omega arith in rw e
+
+pub to-end : (run : List ℕ) (mark : ℕ) → upTo run mark (length run) ≡ drop mark run
+to-end run mark = take-all (length run - mark) (drop mark run) (omega (arith, length-drop mark run))

@@ -1,20 +1,13 @@
-// Lists of codes and of names as calls hand them over, and the rules for them.
-mod codes;
+// What a list of codes or of names must meet as calls hand it over: the limits, and the numbers of refusals.
 mod limits; // of what is handed over
-mod names;
 mod numbers; // of refusals
-mod texts;
 
-pub use codes::list_ok;
-pub use codes::sum_of;
 pub use limits::MOST_BANDS;
 pub use limits::MOST_CODES;
 pub use limits::MOST_FILE_BYTES;
 pub use limits::MOST_NAME_BYTES;
 pub use limits::MOST_SHEET_BYTES;
 pub use limits::MOST_SUPPLIED_BANDS;
-pub use names::is_taken;
-pub use names::names_ok;
 pub use numbers::BAD_NAME;
 pub use numbers::BROKEN_ROW;
 pub use numbers::EMPTY_LIST;
@@ -30,8 +23,6 @@ pub use numbers::STUCK;
 pub use numbers::UNKNOWN_COLOUR;
 pub use numbers::WRONG_HEADING;
 pub use numbers::WRONG_WIDTH;
-pub use texts::all_bands;
-pub use texts::name_ok;
 
 // A refusal: its number in document 01's table, and a row (0 where no row is meant).
 pub struct Refusal {

@@ -1,4 +1,2 @@
--- The difference of two lengths, the search for places, and what a check promises.
-pub mod Signed
+-- The search for the places of all codes.
 pub mod Finding
-pub mod Calls

@@ -1,3 +1,3 @@
--- Places of all listed codes, and what the calls that check a supplied ribbon promise.
+-- Places of all listed codes, as records.
 pub mod Starts
 pub mod Calls

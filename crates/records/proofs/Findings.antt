@@ -14,14 +14,14 @@ use denote.Steps.{only}
 use denote.Struct.Laws as LL
 use denote.Enum.Laws as EL
 use Rattle.places.specs.declared.Place.{Place}
-use Rattle.places.specs.declared.Checked.{Checked}
-use Rattle.places.specs.declared.Findings.{Findings}
+use Rattle.verdicts.specs.declared.Checked.{Checked}
+use Rattle.verdicts.specs.declared.Findings.{Findings}
 use Rattle.places.proofs.Place as P
 use Rattle.places.proofs.Place.Laws as P′
-use Rattle.places.proofs.Checked as K
-use Rattle.places.proofs.Checked.Laws as K′
-use Rattle.places.proofs.Findings as F
-use Rattle.places.proofs.Findings.Laws as F′
+use Rattle.verdicts.proofs.Checked as K
+use Rattle.verdicts.proofs.Checked.Laws as K′
+use Rattle.verdicts.proofs.Findings as F
+use Rattle.verdicts.proofs.Findings.Laws as F′
 use Rattle.records.proofs.Row.{Row, rowVal, row-tells}
 
 -- the machine values of an answer, and of what a check finds

@@ -3,10 +3,10 @@ ghost use Prim.Native.Nat.{_≤_};
 ghost use mathlib.Core.Path.{_≡_};
 ghost use lib.ListN.{length, take};
 ghost use Rattle.lists.specs.Runs.{over};
-ghost use Rattle.places.specs.Calls.{ChecksRibbon};
+ghost use Rattle.verdicts.specs.Calls.{ChecksRibbon};
 use lists::MOST_CODES;
-use places::Checked;
 use places::Place;
+use verdicts::Checked;
 
 // The first records of a row, so many, over those that are lent.
 fn fill(all: [Place; MOST_CODES], due: usize, places: &mut [Place])
@@ -28,7 +28,7 @@ fn fill(all: [Place; MOST_CODES], due: usize, places: &mut [Place])
 pub fn check_ribbon(bands: &[u8], lengths: &[u16], ribbon: &[u8], places: &mut [Place]) -> Checked
     ensures { λ r. ⌜ ChecksRibbon (now (bands .entry)) (now (lengths .entry)) (now (ribbon .entry)) (now (places .entry)) (now (places .exit)) r ⌝ }
 {
-    let found = places::check_places(bands, lengths, ribbon, places.len());
+    let found = verdicts::check_places(bands, lengths, ribbon, places.len());
     fill(found.records, found.due, places);
     found.answer
 }

@@ -19,11 +19,12 @@ use Rattle.grammar.specs.RibbonFile.{ribbonOf}
 use Rattle.greedy.proofs.Laying.{never-stuck-rule}
 use Rattle.checking.specs.Answers.{CheckAnswer, refused, missing-code, held, PlaceRecord, CheckOutcome, ChecksInto}
 use Rattle.checking.specs.Answers.{false-list, long-ribbon, no-colour, no-join, no-place, short-buffer, filled}
-use Rattle.places.specs.Calls.{recordOf, answerOf, ChecksAlone}
+use Rattle.places.specs.Calls.{recordOf}
+use Rattle.verdicts.specs.Calls.{answerOf, ChecksAlone}
 use Rattle.places.specs.declared.Place as declared
 use Rattle.places.specs.declared.Way.the-variants.{Given}
-use Rattle.places.specs.declared.Checked.{Checked}
-use Rattle.places.specs.declared.Checked.the-variants.{Held}
+use Rattle.verdicts.specs.declared.Checked.{Checked}
+use Rattle.verdicts.specs.declared.Checked.the-variants.{Held}
 use Rattle.sheets.proofs.Decimal.{digits-ours}
 use Rattle.programs.specs.Programs.{refusedLine, heldLine, missingLine, checkedLine, WritesOver}
 use Rattle.programs.specs.Prints.{CheckLine}

@@ -25,10 +25,11 @@ use Rattle.sheets.proofs.ReadBack.{reads-back}
 use Rattle.checking.specs.Check.{Missing, none-missing, missing, all-held}
 use Rattle.checking.specs.Answers.{CheckAnswer, CheckOutcome, refused, missing-code, held, Fit, ChecksInto}
 use Rattle.checking.specs.Answers.{false-list, long-ribbon, no-colour, no-join, no-place, short-buffer, filled}
-use Rattle.places.specs.Calls.{recordOf, recordsOf, ChecksRibbon}
+use Rattle.places.specs.Calls.{recordOf, recordsOf}
+use Rattle.verdicts.specs.Calls.{ChecksRibbon}
 use Rattle.places.specs.declared.Place as declared
-use Rattle.places.specs.declared.Checked.{Checked}
-use Rattle.places.specs.declared.Checked.the-variants as checked
+use Rattle.verdicts.specs.declared.Checked.{Checked}
+use Rattle.verdicts.specs.declared.Checked.the-variants as checked
 use Rattle.checking.proofs.Check.{missing-one}
 use Rattle.ribbons.specs.Demands.{PassesExactly, SheetIs, SheetIsTrue}
 

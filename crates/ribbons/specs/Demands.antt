@@ -39,10 +39,10 @@ use Rattle.writer.specs.declared.Wrote.the-variants.{Sheet}
 use Rattle.checking.specs.Check.{Misses, missingOn}
 use Rattle.checking.specs.Check as check
 use Rattle.checking.specs.Answers.{PlaceRecord, CheckOutcome, Fit, Checks, checkOutcome}
-use Rattle.places.specs.Calls.{ChecksRibbon}
+use Rattle.verdicts.specs.Calls.{ChecksRibbon}
 use Rattle.places.specs.declared.Place as declared
-use Rattle.places.specs.declared.Checked.{Checked}
-use Rattle.places.specs.declared.Checked.the-variants.{Missing, Held}
+use Rattle.verdicts.specs.declared.Checked.{Checked}
+use Rattle.verdicts.specs.declared.Checked.the-variants.{Missing, Held}
 use Rattle.programs.specs.Programs.{ribbonOutput, sheetOutput, checkOutput}
 use Rattle.programs.specs.Prints.{RibbonProgram, SheetProgram, CheckProgram}
 

@@ -14,9 +14,9 @@ use lists::MOST_CODES;
 use lists::MOST_NAME_BYTES;
 use orders::Read;
 use orders::read_orders;
-use places::Checked;
-use places::check_only;
 use rows::ribbon_of;
+use verdicts::Checked;
+use verdicts::check_only;
 
 // The line for a list that is fit and a supplied ribbon: held, missing, or the ribbon's refusal.
 fn check_line(bands: &[u8], lengths: &[u16], ribbon: &[u8], out: &mut [u8]) -> usize

@@ -10,14 +10,14 @@ pub use orders::read_orders;
 pub use layout::Laid;
 pub use layout::lay_ribbon;
 // checking a supplied ribbon
-pub use places::Checked;
-pub use places::Findings;
 pub use places::Place;
 pub use places::Way;
-pub use places::check_only;
-pub use places::check_places;
 pub use records::check_ribbon;
 pub use rows::ribbon_of;
+pub use verdicts::Checked;
+pub use verdicts::Findings;
+pub use verdicts::check_only;
+pub use verdicts::check_places;
 // writing the sheet
 pub use writer::Wrote;
 pub use writer::write_sheet;

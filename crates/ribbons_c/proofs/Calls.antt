@@ -23,9 +23,10 @@ use Rattle.layout.specs.declared.Laid.{Laid}
 use Rattle.layout.specs.declared.Laid.the-variants as lay
 use Rattle.checking.specs.Answers.{CheckAnswer, CheckOutcome, PlaceRecord, ChecksInto}
 use Rattle.checking.specs.Answers as checks
-use Rattle.places.specs.Calls.{ChecksAlone, blanks}
-use Rattle.places.specs.declared.Checked.{Checked}
-use Rattle.places.specs.declared.Checked.the-variants as check
+use Rattle.places.specs.Calls.{blanks}
+use Rattle.verdicts.specs.Calls.{ChecksAlone}
+use Rattle.verdicts.specs.declared.Checked.{Checked}
+use Rattle.verdicts.specs.declared.Checked.the-variants as check
 use Rattle.sheets.specs.Answers.{SheetAnswer, SheetOutcome, SheetsInto}
 use Rattle.sheets.specs.Answers as sheets
 use Rattle.writer.specs.Calls.{WritesSheet}

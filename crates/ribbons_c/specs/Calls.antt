@@ -15,9 +15,9 @@ use Rattle.orders.specs.declared.Read.the-variants as read
 use Rattle.layout.specs.Calls.{LaysRibbon}
 use Rattle.layout.specs.declared.Laid.{Laid}
 use Rattle.layout.specs.declared.Laid.the-variants as lay
-use Rattle.places.specs.Calls.{ChecksAlone}
-use Rattle.places.specs.declared.Checked.{Checked}
-use Rattle.places.specs.declared.Checked.the-variants as check
+use Rattle.verdicts.specs.Calls.{ChecksAlone}
+use Rattle.verdicts.specs.declared.Checked.{Checked}
+use Rattle.verdicts.specs.declared.Checked.the-variants as check
 use Rattle.writer.specs.Calls.{WritesSheet}
 use Rattle.writer.specs.declared.Wrote.{Wrote}
 use Rattle.writer.specs.declared.Wrote.the-variants as write

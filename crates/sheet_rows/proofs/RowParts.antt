@@ -11,7 +11,7 @@ use Rattle.lists.specs.Runs.{codesIn, total}
 use Rattle.grammar.specs.Files.{comma, lineBreak}
 use Rattle.grammar.specs.Quoting.{fieldText}
 use Rattle.greedy.specs.Dropping.{codeAt}
-use Rattle.lists.proofs.Passing.{part-to}
+use Rattle.lists.proofs.Runs.{part-to}
 use Rattle.parts.proofs.Cutting.{total-part, code-at}
 use Rattle.places.specs.declared.Place as declared
 use Rattle.places.specs.declared.Way.{Way}

@@ -7,8 +7,8 @@ ghost use Rattle.sheets.specs.Sheet.{rowText, sheetHeading};
 ghost use Rattle.sheet_rows.specs.Placed.{RowsThere, wayText, startOf, wayRow, nthRow};
 use fields::put_decimal;
 use fields::put_field;
+use fitness::sum_of;
 use lists::MOST_CODES;
-use lists::sum_of;
 use places::Place;
 use places::Way;
 

@@ -2,7 +2,7 @@
 ghost use mathlib.Core.Path.{_≡_};
 ghost use Prim.Native.Nat.{_≤_};
 ghost use lib.ListN.{take, drop};
-ghost use Rattle.places.specs.Calls.{ChecksRibbon};
+ghost use Rattle.verdicts.specs.Calls.{ChecksRibbon};
 use ribbons::Checked;
 use ribbons::Place;
 

@@ -64,10 +64,10 @@ pub fn write_sheet(
 ) -> Wrote
     ensures { λ r. ⌜ WritesSheet (now (bands .entry)) (now (lengths .entry)) (now (names .entry)) (now (sizes .entry)) (now (out .entry)) (now (out .exit)) r ⌝ }
 {
-    if !lists::list_ok(bands, lengths) {
+    if !fitness::list_ok(bands, lengths) {
         return refused(lists::FALSE_LIST);
     }
-    if !lists::names_ok(lengths.len(), names, sizes) {
+    if !fitness::names_ok(lengths.len(), names, sizes) {
         return refused(lists::FALSE_LIST);
     }
     let mut ribbon = [0u8; lists::MOST_BANDS];

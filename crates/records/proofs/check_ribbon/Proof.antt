@@ -43,18 +43,18 @@ use denote.Triple.Table.{entered, cited}
 use denote.Triple.Walked.{says, Stays, stay-none-slice, gave-slice, walkOf, goes-none-slice, goes-gave-slice, AllGo, Walks, ends-at, walked, walk-meets}
 use denote.Exit.{yes}
 use Rattle.lists.specs.Runs.{over}
-use Rattle.places.specs.Calls.{ChecksInRoom, ChecksRibbon}
+use Rattle.verdicts.specs.Calls.{ChecksInRoom, ChecksRibbon}
 use Rattle.places.specs.declared.Place.{Place}
-use Rattle.places.specs.declared.Findings.{Findings}
+use Rattle.verdicts.specs.declared.Findings.{Findings}
 use Rattle.places.proofs.Place as P
-use Rattle.places.proofs.Checked as K
-use Rattle.places.proofs.Checked.Laws as K′
-use Rattle.places.proofs.Findings as F
-use Rattle.places.proofs.Findings.Laws as F′
-use Rattle.places.proofs.check_places as check-places
-use Rattle.places.proofs.check_places.Symbol as check-places-def
-use Rattle.places.proofs.check_places.Symbol.{name as #places·check-places}
-use Rattle.places.proofs.check_places.Met as check-places-thm
+use Rattle.verdicts.proofs.Checked as K
+use Rattle.verdicts.proofs.Checked.Laws as K′
+use Rattle.verdicts.proofs.Findings as F
+use Rattle.verdicts.proofs.Findings.Laws as F′
+use Rattle.verdicts.proofs.check_places as check-places
+use Rattle.verdicts.proofs.check_places.Symbol as check-places-def
+use Rattle.verdicts.proofs.check_places.Symbol.{name as #verdicts·check-places}
+use Rattle.verdicts.proofs.check_places.Met as check-places-thm
 use Rattle.records.proofs.Row.{Row, rowVal, row-makes}
 use Rattle.records.proofs.Findings.{answerVal, answer-is, due-fits, records-are, found-is}
 use Rattle.records.proofs.fill as fill′
@@ -241,7 +241,7 @@ module _ {M : Type 1} (𝓤 : URA M) (H : Heap 𝓤) (A : Atoms 𝓤) (W : Given
   abbrev Ends : Type 0
   Ends = Unit {0} × (Unit {0} × (List Place × Unit {0}))
 
-  module _ (𝓣 : Tables 𝓤 H) (known-check : Triple 𝓤 (𝓣 .C #places·check-places) (CheckPlaces 𝓤 H A mem run))
+  module _ (𝓣 : Tables 𝓤 H) (known-check : Triple 𝓤 (𝓣 .C #verdicts·check-places) (CheckPlaces 𝓤 H A mem run))
       (known-fill : Triple 𝓤 (𝓣 .C #records·fill) (Fill 𝓤 H A mem run)) where
     walk : Room u8 (length (now x₀)) → Room u16 (length (now x₁)) → Room u8 (length (now x₂)) → Room P.the-row (length ys)
         → ent 𝓤 (onEntry 𝓤 H A check′.signature κs qs a vals) (WpFn 𝓤 H (𝓣 .C) (𝓣 .Λ) code.function (v₀ ∷ v₁ ∷ v₂ ∷ s ∷ []) Post)
@@ -312,7 +312,7 @@ module _ {M : Type 1} (𝓤 : URA M) (H : Heap 𝓤) (A : Atoms 𝓤) (W : Given
 
 -- ---- the walk taken to the contract, and to the routine
 module _ {M : Type 1} (𝓤 : URA M) (H : Heap 𝓤) (A : Atoms 𝓤) (W : Given 𝓤 H A) (mem : Memory → SProp 𝓤)
-    (run : Routine → Fun 𝓤) (𝓣 : Tables 𝓤 H) (known-check : Triple 𝓤 (𝓣 .C #places·check-places) (CheckPlaces 𝓤 H A mem run))
+    (run : Routine → Fun 𝓤) (𝓣 : Tables 𝓤 H) (known-check : Triple 𝓤 (𝓣 .C #verdicts·check-places) (CheckPlaces 𝓤 H A mem run))
     (known-fill : Triple 𝓤 (𝓣 .C #records·fill) (Fill 𝓤 H A mem run)) where
   check-walks : Walks 𝓤 H A check′.ended stayed (WpFn 𝓤 H (𝓣 .C) (𝓣 .Λ) code.function) (check′.clauses 𝓤 H A mem run)
   check-walks = walked 𝓤 H A check′.ended stayed (check′.clauses 𝓤 H A mem run) (WpFn 𝓤 H (𝓣 .C) (𝓣 .Λ) code.function)
@@ -352,7 +352,7 @@ check-ribbon-spec 𝓤 H 𝓜 𝓖 𝓡 =
     entered 𝓤 H (tripleOf 𝓤 H (𝓖 .A) check′.signature (check′.spec 𝓤 H (𝓖 .A) (𝓜 .mem) (𝓡 .run)))
     (tables 𝓤 H 𝓜 𝓡 code.env .C) (tables 𝓤 H 𝓜 𝓡 code.env .Λ) #records·check-ribbon code.function (code.unfolded 𝓤 H 𝓜 𝓡)
     (check-meets 𝓤 H (𝓖 .A) (givenOf 𝓤 H 𝓜 𝓖) (𝓜 .mem) (𝓡 .run) (tablesOf 𝓤 H 𝓜 (tables 𝓤 H 𝓜 𝓡 code.env))
-    (cited 𝓤 H (CheckPlaces 𝓤 H (𝓖 .A) (𝓜 .mem) (𝓡 .run)) 𝓜 𝓡 code.env #places·check-places
-    check-places-def.routine code.calls-places·check-places (check-places-thm.met 𝓤 H 𝓜 𝓖 𝓡))
+    (cited 𝓤 H (CheckPlaces 𝓤 H (𝓖 .A) (𝓜 .mem) (𝓡 .run)) 𝓜 𝓡 code.env #verdicts·check-places
+    check-places-def.routine code.calls-verdicts·check-places (check-places-thm.met 𝓤 H 𝓜 𝓖 𝓡))
     (cited 𝓤 H (Fill 𝓤 H (𝓖 .A) (𝓜 .mem) (𝓡 .run)) 𝓜 𝓡 code.env #records·fill
     fill-def.routine code.calls-records·fill (fill-thm.met 𝓤 H 𝓜 𝓖 𝓡)))

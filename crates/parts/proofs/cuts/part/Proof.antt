@@ -1,7 +1,7 @@
 -- `cuts::part`: from a start to that start and a size is so many bands from the start on.
 use lib.ListN.{getD}
 use borrow.Author.Needs.{needs}
-use Rattle.lists.proofs.Passing.{part-to}
+use Rattle.lists.proofs.Runs.{part-to}
 use Rattle.parts.proofs.cuts.part.Statement.{statement}
 use Rattle.parts.proofs.cuts.part.Tie as tie
 

@@ -5,7 +5,7 @@ use Prim.Native.Nat.{ℕ}
 use borrow.Author.Needs.{needs}
 use Rattle.words.specs.Turn.{turned}
 use Rattle.words.specs.Place.{placeOf}
-use Rattle.lists.proofs.Passing.{part-to}
+use Rattle.lists.proofs.Runs.{part-to}
 use Rattle.places.proofs.records.place_of.Statement.{statement}
 use Rattle.places.proofs.records.place_of.Tie as tie
 

@@ -54,13 +54,13 @@ use denote.Triple.Walked.{says, needs, Stays, stay-none, stay-none-slice, walkOf
 use denote.Exit.{yes}
 use borrow.Table.Elements.{at, cut-app, join-app}
 use borrow.Rule.Array.Share.{room-take}
-use Rattle.places.specs.Calls.{ChecksRibbon}
+use Rattle.verdicts.specs.Calls.{ChecksRibbon}
 use Rattle.places.specs.declared.Place.{Place}
-use Rattle.places.specs.declared.Checked.{Checked}
+use Rattle.verdicts.specs.declared.Checked.{Checked}
 use Rattle.places.proofs.Place as P
 use Rattle.places.proofs.Place.Laws as P′
-use Rattle.places.proofs.Checked as K
-use Rattle.places.proofs.Checked.Laws as K′
+use Rattle.verdicts.proofs.Checked as K
+use Rattle.verdicts.proofs.Checked.Laws as K′
 use Rattle.records.proofs.Row.{Row, rowTy, rowVals, rowVal, row-tells, row-makes, apart, together}
 use Rattle.records.proofs.check_ribbon as check′
 use Rattle.records.proofs.check_ribbon.Symbol as check-def

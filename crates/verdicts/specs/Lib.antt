@@ -1,0 +1,2 @@
+-- What the calls that check a supplied ribbon promise.
+pub mod Calls
