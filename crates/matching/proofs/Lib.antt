@@ -2,4 +2,3 @@
 pub mod Comparing
 pub mod Trying
 pub mod Seeking
-pub mod Searching

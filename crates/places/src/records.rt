@@ -5,19 +5,19 @@ ghost use Prim.Native.Nat.{_+_, _≤_, _<_};
 ghost use lib.ListN.{length, take, drop};
 ghost use Rattle.words.specs.Turn.{turned};
 ghost use Rattle.words.specs.Place as p;
-ghost use Rattle.matching.specs.Answers.{placeIn};
+ghost use Rattle.finding.specs.Answers.{placeIn};
 ghost use Rattle.places.specs.Starts.{StartsWithin};
 ghost use Rattle.places.specs.Calls.{wayAt, recordOf};
 use crate::Place;
 use crate::Way;
-use matching::Found;
+use finding::Found;
 
 // The place of the code of so many bands that starts at a number in the lent run.
 pub fn place_of(bands: &[u8], at: usize, size: usize, ribbon: &[u8]) -> Found
     requires { ⌜ (at + size ≤ length (now bands)) × (at + size < 65536) ⌝ }
     ensures { λ r. ⌜ placeIn r ≡ p.placeOf turned (take size (drop at (now (bands .entry)))) (now (ribbon .entry)) ⌝ }
 {
-    matching::find_place(&bands[at..at + size], ribbon)
+    finding::find_place(&bands[at..at + size], ribbon)
 }
 
 // Whether there is no place.

@@ -1,7 +1,7 @@
 // A case of an order list: reading it, and what the ribbon program and the sheet program write.
-use crate::answers::say_read;
 use cases::front;
 use cases::front_numbers;
+use outcomes::say_read;
 use ribbons::MOST_SHEET_BYTES;
 use ribbons::Read;
 use telling::MOST_BYTES;

@@ -1,17 +1,18 @@
 // A case of a list that other code hands over: laying it out, checking a supplied ribbon in three ways, and its sheet.
 ghost use Prim.Native.Nat.{_≤_};
-use crate::answers::say_checked;
-use crate::answers::say_laid;
-use crate::answers::say_wrote;
-use crate::lent_records::blank_records;
-use crate::lent_records::marked_records;
-use crate::lent_records::tell_records;
-use crate::lent_records::widened;
-use crate::recorded::MOST_RECORDS;
-use crate::recorded::check_front;
+use outcomes::MOST_RECORDS;
+use outcomes::blank_records;
+use outcomes::check_front;
+use outcomes::marked_records;
+use outcomes::say_checked;
+use outcomes::say_laid;
+use outcomes::say_wrote;
+use outcomes::tell_records;
+use outcomes::widened;
 use ribbons::Checked;
 use ribbons::Laid;
 use ribbons::MOST_CODES;
+use ribbons::Place;
 use ribbons::Wrote;
 use telling::MOST_BYTES;
 use telling::Tally;
@@ -75,7 +76,7 @@ fn records_room(rooms: &[u16]) -> usize
 fn tell_checked(t: Tally, bands: &[u8], lengths: &[u16], ribbon: &[u8], room: usize) -> Tally
     requires { ⌜ room ≤ 130 ⌝ }
 {
-    let before = marked_records();
+    let before: [Place; MOST_RECORDS] = marked_records();
     let recorded = check_front(bands, lengths, ribbon, before, room);
     let answer = recorded.answer;
     let after = recorded.places;

@@ -1,15 +1,12 @@
 // The trials: reads a file of cases from standard input, runs each through the public calls, and writes a line for each group
 // with a count and a checksum over all that the calls did. The argument `first` has the texts of each group's first case
 // printed too, `all` those of all cases.
-mod answers; // of calls, said
 mod case_lines; // cases written out
 mod file_case;
 mod groups; // the file of cases, line by line
-mod lent_records; // place records before and after a call
 mod list_case;
 mod making; // a generated case
 mod pair_case;
-mod recorded; // a check into lent records
 
 use groups::run_lines;
 use libc::STDIN_FILENO;

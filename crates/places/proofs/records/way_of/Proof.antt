@@ -2,8 +2,8 @@
 use mathlib.Core.Path.{sym, ap, subst}
 use native.Mathlib.Omega.{arith}
 use borrow.Author.Needs.{needs}
-use Rattle.matching.specs.Answers.{placeIn}
-use Rattle.matching.specs.declared.search.Found.{Found}
+use Rattle.finding.specs.Answers.{placeIn}
+use Rattle.finding.specs.declared.Found.{Found}
 use Rattle.places.specs.Starts.{StartsWithin}
 use Rattle.places.proofs.records.way_of.Statement.{statement}
 use Rattle.places.proofs.records.way_of.Tie as tie

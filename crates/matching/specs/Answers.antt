@@ -1,9 +1,0 @@
--- The place that an answer of the search tells.
-use Rattle.words.specs.Place.{Place, given-at, turned-at, nowhere}
-use Rattle.matching.specs.declared.search.Found.{Found}
-use Rattle.matching.specs.declared.search.Found.the-variants.{Given, Turned, Nowhere}
-
-abbrev pub placeIn : Found → Place
-placeIn (Given i) = given-at i
-placeIn (Turned i) = turned-at i
-placeIn Nowhere = nowhere
