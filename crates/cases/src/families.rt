@@ -10,7 +10,7 @@ use lists::MOST_BANDS;
 use lists::MOST_CODES;
 
 // the chains' word stands behind all bands
-pub const WORD: usize = MOST_BANDS;
+const WORD: usize = MOST_BANDS;
 
 // the codes' starts stand behind their lengths
 pub const STARTS: usize = MOST_CODES;

@@ -14,7 +14,7 @@ pub struct Sums {
 }
 
 // The overlap from face a to face b.
-pub fn face_overlap(bands: &[u8], starts: &[usize], sizes: &[usize], a: usize, b: usize) -> usize
+fn face_overlap(bands: &[u8], starts: &[usize], sizes: &[usize], a: usize, b: usize) -> usize
     requires { ⌜ PartThere (now bands) (now starts) (now sizes) (a / 2) × PartThere (now bands) (now starts) (now sizes) (b / 2) ⌝ }
     ensures { λ r. ⌜ r ≡ faceShared (now (bands .entry)) (now (starts .entry)) (now (sizes .entry)) a b ⌝ }
 {
