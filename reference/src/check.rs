@@ -31,7 +31,7 @@ pub fn check_ribbon(
     if !are_bands(ribbon) {
         return Err(Refusal::whole(UNKNOWN_COLOUR));
     }
-    let (computed, _) = computed(&codes)?;
+    let (computed, _) = computed(&codes);
     let records = match places_on(ribbon, &codes) {
         Ok(records) => records,
         Err(code) => return Ok(Checked::Missing(code)),

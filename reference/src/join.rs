@@ -30,32 +30,33 @@ struct Join<'a> {
     overlap: usize,
 }
 
-/// The ribbon and what it saved; `None` if several pieces remain and none of
-/// them can be joined.
-pub fn joined(kept: &[&[u8]]) -> Option<(Vec<u8>, usize)> {
+/// The ribbon and what it saved. While several pieces remain two of them can
+/// be joined, if only with overlap 0.
+pub fn joined(kept: &[&[u8]]) -> (Vec<u8>, usize) {
     let overlaps = overlaps(&faces_of(kept));
     let mut pieces: Vec<Piece> = (0..).zip(kept).map(|(k, code)| single(k, code)).collect();
     while pieces.len() > 1 {
-        pieces = round(pieces, &overlaps)?;
+        pieces = round(pieces, &overlaps);
     }
-    let piece = pieces.pop()?;
+    let piece = pieces.pop().expect("a list has a kept code");
     // The ribbon is read from the piece that holds face 0, not face 1.
     let ribbon = held(&piece, !piece.faces.contains(&0));
-    Some((ribbon.text, ribbon.saved))
+    (ribbon.text, ribbon.saved)
 }
 
 /// The best join made: of the largest overlaps the lowest face a, then b.
-fn round(mut pieces: Vec<Piece>, overlaps: &[Vec<usize>]) -> Option<Vec<Piece>> {
+fn round(mut pieces: Vec<Piece>, overlaps: &[Vec<usize>]) -> Vec<Piece> {
     let ends = ends_of(&pieces);
     let join = joins(&ends, overlaps)
-        .min_by_key(|join| (Reverse(join.overlap), join.left.last, join.right.first))?;
+        .min_by_key(|join| (Reverse(join.overlap), join.left.last, join.right.first))
+        .expect("of two pieces one can be joined to the other");
     let left = held(&pieces[join.left.piece], join.left.flipped);
     let right = held(&pieces[join.right.piece], join.right.flipped);
     let (one, two) = (join.left.piece, join.right.piece);
     pieces.swap_remove(one.max(two));
     pieces.swap_remove(one.min(two));
     pieces.push(merged(left, right, join.overlap));
-    Some(pieces)
+    pieces
 }
 
 /// All ordered pairs of different pieces, each as it is and flipped. No face

@@ -13,10 +13,10 @@ pub const LIST_FULL: u8 = 10;
 pub const EMPTY_LIST: u8 = 11;
 pub const FALSE_LIST: u8 = 12;
 pub const SHORT_BUFFER: u8 = 13;
-pub const STUCK: u8 = 14;
 pub const LONG_RIBBON: u8 = 15;
 
-/// No refusal has the number 0, so its word is empty.
+/// No refusal has the number 0, nor 14, which is retired and not to be used
+/// again: their words are empty.
 const WORDS: [&str; 16] = [
     "",
     "long file",
@@ -32,7 +32,7 @@ const WORDS: [&str; 16] = [
     "empty list",
     "false list",
     "short buffer",
-    "stuck",
+    "",
     "long ribbon",
 ];
 

@@ -24,7 +24,7 @@ pub fn write_sheet(
 ) -> Result<Sheet, Refusal> {
     let codes = codes_of(bands, lengths)?;
     let names = names_of(names, sizes, codes.len())?;
-    let (ribbon, saved) = computed(&codes)?;
+    let (ribbon, saved) = computed(&codes);
     let places = places_on(&ribbon, &codes).expect("every code stands on its own ribbon");
     let mut sheet = b"name,way,start,bands\r\n".to_vec();
     for ((name, code), place) in names.iter().zip(&codes).zip(places) {

@@ -31,7 +31,7 @@ impl Program {
     }
 
     /// Everything that can come of an input. A list that was read breaks no
-    /// rule, its room suffices and it is never stuck: no 12, 13 or 14.
+    /// rule and its room suffices: no 12 or 13. 14 is retired.
     pub fn outcomes(self) -> Vec<Outcome> {
         let accepted = match self {
             Program::Check => &[HeldBelow, HeldAt, HeldAbove, Missing][..],

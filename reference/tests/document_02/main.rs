@@ -1,0 +1,10 @@
+//! Tests by request of document 02. Expected values stand in document 02 or
+//! are worked out by hand from it.
+
+#[path = "../document_01/chance.rs"]
+mod chance;
+#[path = "../document_01/common.rs"]
+#[allow(dead_code)]
+mod common;
+
+mod m112_number_14;
