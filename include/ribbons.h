@@ -31,7 +31,7 @@ extern "C" {
 #define RIBBONS_MOST_SUPPLIED_BANDS 16384 /* of a supplied ribbon: one that has more is refused */
 #define RIBBONS_MOST_SHEET_BYTES 16534    /* of a sheet */
 
-/* The numbers of refusals. */
+/* The numbers of refusals. 14 is retired: no call answers it, and it is not to be used again. */
 #define RIBBONS_LONG_FILE 1       /* more than 16,384 bytes in an order list */
 #define RIBBONS_BROKEN_ROW 2      /* the row breaks RFC 4180's grammar, or has a byte other than CR, LF and 20 to 7E */
 #define RIBBONS_WRONG_WIDTH 3     /* the row hasn't two fields */
@@ -45,7 +45,6 @@ extern "C" {
 #define RIBBONS_EMPTY_LIST 11     /* a right heading and no row after it */
 #define RIBBONS_FALSE_LIST 12     /* a list that is handed over breaks a rule for lists, codes or names */
 #define RIBBONS_SHORT_BUFFER 13   /* a lent result buffer is shorter than the result */
-#define RIBBONS_STUCK 14          /* several pieces remain and no join is allowed: no list is refused so */
 #define RIBBONS_LONG_RIBBON 15    /* more than 16,384 bands in a supplied ribbon */
 
 /* What reading an order list gives. */

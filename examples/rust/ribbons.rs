@@ -12,7 +12,7 @@ pub const MOST_NAME_BYTES: usize = 3072;
 pub const MOST_SUPPLIED_BANDS: usize = 16384;
 pub const MOST_SHEET_BYTES: usize = 16534;
 
-// The numbers of refusals.
+// The numbers of refusals. 14 is retired: no call answers it, and it is not to be used again.
 pub const LONG_FILE: u8 = 1;
 pub const BROKEN_ROW: u8 = 2;
 pub const WRONG_WIDTH: u8 = 3;
@@ -26,7 +26,6 @@ pub const LIST_FULL: u8 = 10;
 pub const EMPTY_LIST: u8 = 11;
 pub const FALSE_LIST: u8 = 12;
 pub const SHORT_BUFFER: u8 = 13;
-pub const STUCK: u8 = 14;
 pub const LONG_RIBBON: u8 = 15;
 
 /// What reading an order list gives.

@@ -12,21 +12,19 @@ use Rattle.words.specs.Turn.{turned}
 use Rattle.words.specs.Lists.{Each}
 use Rattle.words.specs.Place.{Place}
 use Rattle.words.specs.Decides.{Decides, yes, no}
-use Rattle.words.proofs.Turning.{turning}
 use Rattle.words.proofs.Deciding.{passes, refuses, is-lt, is-le, not-lt}
 use Rattle.words.proofs.Placing.{finds-ours, place-one}
-use Rattle.lists.specs.Refusals.{whole, falseList, longRibbon, unknownColour, stuck, shortBuffer, when, firstOf}
+use Rattle.lists.specs.Refusals.{whole, falseList, longRibbon, unknownColour, shortBuffer, when, firstOf}
 use Rattle.lists.specs.Outcome.{outcome}
 use Rattle.lists.specs.Runs.{codesIn, over}
 use Rattle.lists.specs.Rules.{Band, FalseCodes}
 use Rattle.lists.specs.Fit.{listOk, allBands}
 use Rattle.lists.proofs.Rules.{is-false-codes, all-bands}
 use Rattle.greedy.specs.Layout.{ribbonFor}
-use Rattle.greedy.proofs.Claims.{lays-ours, lays-only, each-laid}
-use Rattle.greedy.proofs.Laying.{never-stuck-rule}
+use Rattle.greedy.proofs.Claims.{lays-ours, lays-only}
 use Rattle.checking.specs.Check.{Missing, none-missing, missing, IsMissing, all-held, lowest, missingOn}
 use Rattle.checking.specs.Answers.{PlaceRecord, CheckOutcome, refused, missing-code, held, Difference, more, fewer}
-use Rattle.checking.specs.Answers.{AreRecords, Fit, ChecksInto, false-list, long-ribbon, no-colour, no-join}
+use Rattle.checking.specs.Answers.{AreRecords, Fit, ChecksInto, false-list, long-ribbon, no-colour}
 use Rattle.checking.specs.Answers.{no-place, short-buffer, filled, Checks, less, recordsFrom, checkOutcome}
 use Rattle.checking.proofs.Check.{misses-ours, missing-one}
 
@@ -45,11 +43,10 @@ module _ (run ls row : List ℕ) (records : List PlaceRecord) where
   abbrev cs : List (List ℕ)
   cs = codesIn run ls
 
-  -- ours by its tests: of the list, of the ribbon's length and bands, of being stuck, of missing codes, of the records
-  abbrev byTests : Bool → Bool → Bool → Bool → Missing → Bool → CheckOutcome
-  byTests bad long ok st m short =
-      let f = firstOf (when bad falseList)
-      (firstOf (when long longRibbon) (firstOf (when (not ok) unknownColour) (when st stuck))) in
+  -- ours by its tests: of the list, of the ribbon's length and bands, of missing codes, of the records
+  abbrev byTests : Bool → Bool → Bool → Missing → Bool → CheckOutcome
+  byTests bad long ok m short =
+      let f = firstOf (when bad falseList) (firstOf (when long longRibbon) (when (not ok) unknownColour)) in
       elim (eqb f 0) [
         | false ↦ outcome (refused (whole f)) records
         | true ↦ elim m [
@@ -62,20 +59,15 @@ module _ (run ls row : List ℕ) (records : List PlaceRecord) where
         ]
       ]
 
-  -- no list gets stuck
   as-tested : checkOutcome run ls row records
-      ≡ byTests (not (listOk run ls)) (ltb 16384 (length row)) (allBands row) false
+      ≡ byTests (not (listOk run ls)) (ltb 16384 (length row)) (allBands row)
       (missingOn turned cs row) (ltb (length records) (length ls))
-  as-tested =
-      ap (λ (st : Bool).
-      byTests (not (listOk run ls)) (ltb 16384 (length row)) (allBands row) st
-      (missingOn turned cs row) (ltb (length records) (length ls)))
-      (each-laid turned turning cs .never-found-stuck)
+  as-tested = refl
 
   -- Ours meets it.
   meets : {bad long ok short : Bool} {m : Missing} → Decides (FalseCodes run ls) bad → Decides (16384 < length row) long
       → Decides (Each Band row) ok → IsMissing turned cs row m → Decides (length records < length ls) short
-      → ChecksInto run ls row records (byTests bad long ok false m short)
+      → ChecksInto run ls row records (byTests bad long ok m short)
   meets (yes f) l b m s = false-list f
   meets (no fit) (yes l) b m s = long-ribbon fit l
   meets (no fit) (no l) (no b) m s = no-colour fit (not-lt l) b
@@ -83,7 +75,7 @@ module _ (run ls row : List ℕ) (records : List PlaceRecord) where
     where
       go : {short : Bool} {m : Missing} → Fit run ls row → IsMissing turned cs row m
           → Decides (length records < length ls) short
-          → ChecksInto run ls row records (byTests false false true false m short)
+          → ChecksInto run ls row records (byTests false false true m short)
       go F (lowest k x f) s = no-place F (lowest k x f)
       go F (all-held a) (yes s) = short-buffer F a s
       go F (all-held a) (no s) =
@@ -92,9 +84,8 @@ module _ (run ls row : List ℕ) (records : List PlaceRecord) where
 
 pub checks-ours : Checks checkOutcome
 checks-ours run ls row records =
-    subst (ChecksInto run ls row records) (sym (as-tested run ls row records))
-    (meets run ls row records (is-false-codes run ls) (is-lt 16384 (length row)) (all-bands row)
-    (misses-ours turned (codesIn run ls) row) (is-lt (length records) (length ls)))
+    meets run ls row records (is-false-codes run ls) (is-lt 16384 (length row)) (all-bands row)
+    (misses-ours turned (codesIn run ls) row) (is-lt (length records) (length ls))
 
 -- Nothing else does: each part of the claim has one outcome, and each case is the one of ours.
 pub difference-one : {a b : ℕ} {d e : ℤ} → Difference a b d → Difference a b e → d ≡ e
@@ -117,7 +108,7 @@ module _ (run ls row : List ℕ) (records : List PlaceRecord) where
   -- ours, where the tests answer so
   if-tests : (bad long ok short : Bool) (m : Missing) → not (listOk run ls) ≡ bad → ltb 16384 (length row) ≡ long
       → allBands row ≡ ok → missingOn turned (codesIn run ls) row ≡ m → ltb (length records) (length ls) ≡ short
-      → checkOutcome run ls row records ≡ byTests run ls row records bad long ok false m short
+      → checkOutcome run ls row records ≡ byTests run ls row records bad long ok m short
   if-tests bad long ok short m a b c d e = as-tested run ls row records ∙ rw (a, b, c, d, e)
 
   m-ours : IsMissing turned (codesIn run ls) row (missingOn turned (codesIn run ls) row)
@@ -125,7 +116,7 @@ module _ (run ls row : List ℕ) (records : List PlaceRecord) where
 
   if-fit : Fit run ls row → (m : Missing) (short : Bool) → missingOn turned (codesIn run ls) row ≡ m
       → ltb (length records) (length ls) ≡ short
-      → checkOutcome run ls row records ≡ byTests run ls row records false false true false m short
+      → checkOutcome run ls row records ≡ byTests run ls row records false false true m short
   if-fit F m short d e =
       if-tests false false true short m (refuses (is-false-codes run ls) (F .list))
       (refuses (is-lt 16384 (length row)) (λ h. omega (arith, F .long))) (passes (all-bands row) (F .bands)) d e
@@ -139,7 +130,6 @@ module _ (run ls row : List ℕ) (records : List PlaceRecord) where
       let no-list = refuses (is-false-codes run ls) fit in
       let not-long = refuses (is-lt 16384 (length row)) (λ h. omega arith) in
       sym (if-tests false false false _ _ no-list not-long (refuses (all-bands row) b) refl refl)
-  into-only (no-join F s) = absurd (never-stuck-rule s)
   into-only (no-place {k} F x) = sym (if-fit F (missing k) _ (missing-one m-ours x) refl)
   into-only (short-buffer F a l) =
       let short = passes (is-lt (length records) (length ls)) l in

@@ -16,7 +16,7 @@ use Rattle.lists.specs.Refusals.{whole, longRibbon, unknownColour, shortBuffer}
 use Rattle.lists.specs.Outcome.{outcome}
 use Rattle.lists.specs.Runs.{codesIn, over}
 use Rattle.lists.specs.Fit.{allBands}
-use Rattle.greedy.specs.Layout.{ribbonFor}
+use Rattle.greedy.specs.Layout.{ribbonFor, savedBy}
 use Rattle.checking.specs.Check.{none-missing, missing, missingOn}
 use Rattle.checking.specs.Answers.{PlaceRecord, CheckOutcome, refused, missing-code, held, Checks, less, recordsFrom}
 use Rattle.checking.specs.Answers.{checkOutcome}
@@ -93,6 +93,18 @@ shortFirst run ls row records =
 pub not-short-first : Checks shortFirst → ⊥
 unfolding turned
 not-short-first = caught shortFirst [] 0 kind (λ e. omega arith)
+
+-- the retired number, 14, where several codes share nothing, as if no join of overlap 0 were allowed; on A and B
+abbrev retiredNumber : Call
+retiredNumber run ls row records =
+    pick
+    (ltb 1 (length ls) && eqb (savedBy turned (codesIn run ls)) 0)
+    (outcome (refused (whole 14)) records)
+    (checkOutcome run ls row records)
+
+pub not-retired-number : Checks retiredNumber → ⊥
+unfolding turned
+not-retired-number = caught-by (1 ∷ 1 ∷ []) retiredNumber (text "AB") 2 kind (λ e. omega arith)
 
 -- 15 before 12; on a length of 3 for AB, and 16,385 As
 abbrev longFirst : Call

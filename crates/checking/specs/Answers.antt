@@ -1,5 +1,5 @@
 -- What checking a supplied ribbon answers and leaves in the lent records, refused input too: the claim on any call, and
--- ours. Refusals come in the order 12, 15, 8 in the ribbon, 14, 13, all with row 0; 13 only where it would answer held.
+-- ours. Refusals come in the order 12, 15, 8 in the ribbon, 13, all with row 0; 13 only where it would answer held.
 use mathlib.Core.Path.{_≡_}
 use mathlib.Core.Bool.{true, false, not}
 use mathlib.Core.List.{List, [], _∷_}
@@ -11,14 +11,14 @@ use Rattle.words.specs.Tests.{pick}
 use Rattle.words.specs.Turn.{turned}
 use Rattle.words.specs.Lists.{Each}
 use Rattle.words.specs.Place.{Place, IsPlace, placeOf}
-use Rattle.lists.specs.Refusals.{Refusal, whole, falseList, longRibbon, unknownColour, stuck, shortBuffer, when, firstOf}
+use Rattle.lists.specs.Refusals.{Refusal, whole, falseList, longRibbon, unknownColour, shortBuffer, when, firstOf}
 use Rattle.lists.specs.Outcome.{Outcome, outcome}
 use Rattle.lists.specs.Runs.{codesIn, over}
 use Rattle.lists.specs.Rules.{Band, FalseCodes}
 use Rattle.lists.specs.Fit.{allBands, listOk}
 use Rattle.joins.specs.Rules.{Chosen}
-use Rattle.greedy.specs.Rules.{Lays, Stuck, AllStand}
-use Rattle.greedy.specs.Layout.{ribbonFor, isStuck}
+use Rattle.greedy.specs.Rules.{Lays, AllStand}
+use Rattle.greedy.specs.Layout.{ribbonFor}
 use Rattle.checking.specs.Check.{none-missing, missing, missingOn, IsMissing}
 
 -- refused, missing the code of a number, or held with the difference
@@ -53,7 +53,7 @@ pub record Fit (run ls row : List ℕ) : Type 0 where
   pub long : length row ≤ 16384
   pub bands : Each Band row
 
--- The claim on a call: 12, 15, 8, 14 in this order, then missing, then 13, and held. A refused call changes no record, nor
+-- The claim on a call: 12, 15, 8 in this order, then missing, then 13, and held. A refused call changes no record, nor
 -- does one that answers missing; on success records past the last code keep what they had.
 module _ (run ls row : List ℕ) (records : List PlaceRecord) where
   abbrev cs : List (List ℕ)
@@ -64,7 +64,6 @@ module _ (run ls row : List ℕ) (records : List PlaceRecord) where
     long-ribbon : (FalseCodes run ls → ⊥) → 16384 < length row → ChecksInto (outcome (refused (whole longRibbon)) records)
     no-colour : (FalseCodes run ls → ⊥) → length row ≤ 16384 → (Each Band row → ⊥)
         → ChecksInto (outcome (refused (whole unknownColour)) records)
-    no-join : Fit run ls row → Stuck turned cs → ChecksInto (outcome (refused (whole stuck)) records)
     no-place : {k : ℕ} → Fit run ls row → IsMissing turned cs row (missing k)
         → ChecksInto (outcome (missing-code k) records)
     short-buffer : Fit run ls row → AllStand turned cs row → length records < length ls
@@ -91,8 +90,7 @@ module _ (run ls row : List ℕ) where
   abbrev pub suppliedFault : ℕ
   suppliedFault =
       firstOf (when (not (listOk run ls)) falseList)
-      (firstOf (when (ltb 16384 (length row)) longRibbon)
-      (firstOf (when (not (allBands row)) unknownColour) (when (isStuck turned (codesIn run ls)) stuck)))
+      (firstOf (when (ltb 16384 (length row)) longRibbon) (when (not (allBands row)) unknownColour))
 
   -- held with all records filled, where there is room for them
   abbrev pub heldOutcome : List PlaceRecord → CheckOutcome

@@ -1,7 +1,7 @@
 -- The claim on a call that lays out a list: ours meets it and nothing else does. Of whatever call meets it, an answer
 -- with saved has demand 3, and the ribbon holds every code.
 use mathlib.Core.Path.{_≡_, refl, sym, ap, ap₂, subst, _∙_}
-use mathlib.Core.Bool.{Bool, true, false, not}
+use mathlib.Core.Bool.{Bool, true, false}
 use mathlib.Core.List.{List}
 use Prim.Native.Nat.{ℕ, _<_}
 use native.Mathlib.Omega.{arith}
@@ -12,19 +12,18 @@ use Rattle.words.specs.Turn.{turned}
 use Rattle.words.specs.Decides.{Decides, yes, no}
 use Rattle.words.proofs.Turning.{turning}
 use Rattle.words.proofs.Deciding.{passes, refuses, is-lt, not-lt}
-use Rattle.lists.specs.Refusals.{Refusal, whole, falseList, stuck, shortBuffer, when, firstOf}
+use Rattle.lists.specs.Refusals.{Refusal, whole, falseList, shortBuffer, when, firstOf}
 use Rattle.lists.specs.Outcome.{outcome}
 use Rattle.lists.specs.Runs.{codesIn, over}
 use Rattle.lists.specs.Rules.{FalseCodes}
-use Rattle.lists.specs.Fit.{listOk}
 use Rattle.lists.proofs.Rules.{is-false-codes}
 use Rattle.joins.specs.Rules.{Chosen}
 use Rattle.greedy.specs.Rules.{Lays}
 use Rattle.greedy.specs.Layout.{ribbonFor, savedBy}
-use Rattle.greedy.specs.Answers.{LayOutcome, refused, laid, LaysInto, false-list, no-join, short-buffer, filled}
+use Rattle.greedy.specs.Answers.{LayOutcome, refused, laid, LaysInto, false-list, short-buffer, filled}
 use Rattle.greedy.specs.Answers.{LaysOut, layOutcome, Means}
-use Rattle.greedy.proofs.Laying.{lays-stand, lays-add, lays-twice, never-stuck-rule}
-use Rattle.greedy.proofs.Claims.{lays-ours, lays-only, chosen-largest, each-laid}
+use Rattle.greedy.proofs.Laying.{lays-stand, lays-add, lays-twice}
+use Rattle.greedy.proofs.Claims.{lays-ours, lays-only, chosen-largest}
 
 module _ (run ls buffer : List ℕ) where
   abbrev cs : List (List ℕ)
@@ -33,44 +32,34 @@ module _ (run ls buffer : List ℕ) where
   abbrev ribbon : List ℕ
   ribbon = ribbonFor turned cs
 
-  -- ours by its tests: of the list, of being stuck, and of the buffer
-  abbrev pub byTests : Bool → Bool → Bool → LayOutcome
-  byTests bad st short =
-      let f = firstOf (when bad falseList) (firstOf (when st stuck) (when short shortBuffer)) in
+  -- ours by its tests: of the list, and of the buffer
+  abbrev pub byTests : Bool → Bool → LayOutcome
+  byTests bad short =
+      let f = firstOf (when bad falseList) (when short shortBuffer) in
       elim (eqb f 0) [
         | true ↦ outcome (laid (length ribbon) (savedBy turned cs)) (over ribbon buffer)
         | false ↦ outcome (refused (whole f)) buffer
       ]
 
-  -- no list gets stuck
-  as-tested : layOutcome run ls buffer ≡ byTests (not (listOk run ls)) false (ltb (length buffer) (length ribbon))
-  as-tested =
-      ap (λ (st : Bool). byTests (not (listOk run ls)) st (ltb (length buffer) (length ribbon)))
-      (each-laid turned turning cs .never-found-stuck)
-
   -- Ours meets it.
   meets : {bad short : Bool} → Decides (FalseCodes run ls) bad → Decides (length buffer < length ribbon) short
-      → LaysInto run ls buffer (byTests bad false short)
+      → LaysInto run ls buffer (byTests bad short)
   meets (yes f) d = false-list f
   meets (no fit) (yes l) = short-buffer fit (lays-ours turned cs) l
   meets (no fit) (no l) = filled fit (lays-ours turned cs) (not-lt l)
 
   -- Nothing else does: each case is the one of ours.
   if-false : FalseCodes run ls → layOutcome run ls buffer ≡ outcome (refused (whole falseList)) buffer
-  if-false f =
-      as-tested
-      ∙ ap (λ (t : Bool). byTests t false (ltb (length buffer) (length ribbon))) (passes (is-false-codes run ls) f)
+  if-false f = ap (λ (t : Bool). byTests t (ltb (length buffer) (length ribbon))) (passes (is-false-codes run ls) f)
 
   if-fit : (FalseCodes run ls → ⊥) → (t : Bool) → ltb (length buffer) (length ribbon) ≡ t
-      → layOutcome run ls buffer ≡ byTests false false t
+      → layOutcome run ls buffer ≡ byTests false t
   if-fit fit t e =
-      as-tested
-      ∙ ap (λ (b : Bool). byTests b false (ltb (length buffer) (length ribbon))) (refuses (is-false-codes run ls) fit)
-      ∙ ap (byTests false false) e
+      ap (λ (b : Bool). byTests b (ltb (length buffer) (length ribbon))) (refuses (is-false-codes run ls) fit)
+      ∙ ap (byTests false) e
 
   into-only : {o : LayOutcome} → LaysInto run ls buffer o → o ≡ layOutcome run ls buffer
   into-only (false-list f) = sym (if-false f)
-  into-only (no-join fit s) = absurd (never-stuck-rule s)
   into-only (short-buffer fit x l) =
       let e = ap length (lays-only turned x .0) in
       sym (if-fit fit true (lt-ltb (length buffer) (length ribbon) (omega arith)))
@@ -81,8 +70,7 @@ module _ (run ls buffer : List ℕ) where
 
 pub lays-out-ours : LaysOut layOutcome
 lays-out-ours run ls buffer =
-    subst (LaysInto run ls buffer) (sym (as-tested run ls buffer))
-    (meets run ls buffer (is-false-codes run ls) (is-lt (length buffer) (length (ribbonFor turned (codesIn run ls)))))
+    meets run ls buffer (is-false-codes run ls) (is-lt (length buffer) (length (ribbonFor turned (codesIn run ls))))
 
 pub lays-out-only : (call : List ℕ → List ℕ → List ℕ → LayOutcome) → LaysOut call → (run ls buffer : List ℕ)
     → call run ls buffer ≡ layOutcome run ls buffer
@@ -102,7 +90,6 @@ laid-means run ls before after bands saved h = go h refl
     go : {o : LayOutcome} → LaysInto run ls before o → o ≡ outcome (laid bands saved) after
         → Means run ls before after bands saved
     go (false-list f) e = never (given e)
-    go (no-join fit s) e = never (given e)
     go (short-buffer fit x l) e = never (given e)
     go (filled {ribbon = r} {saved = m} fit x l) e =
         let a = given e in

@@ -13,7 +13,7 @@ use Rattle.lists.specs.Runs.{total, lengths}
 use Rattle.joins.specs.Faces.{Join}
 use Rattle.joins.specs.Rules.{Chosen, Largest, Joins}
 use Rattle.joins.specs.Rounds.{layoutOf}
-use Rattle.joins.proofs.Rounds.{all-largest, never-stuck, joins-ours}
+use Rattle.joins.proofs.Rounds.{all-largest, joins-ours}
 use Rattle.joins.proofs.Order.{order-piece}
 use Rattle.joins.proofs.Claims.{joins-one, piece-one}
 use Rattle.greedy.specs.Dropping.{kept}
@@ -23,12 +23,12 @@ use Rattle.greedy.specs.Layout.{orderFor, ribbonFor, savedBy}
 use Rattle.greedy.specs.Laid.{EachLaid}
 use Rattle.greedy.specs.Starred.{ByHand, starred, Starred}
 use Rattle.greedy.proofs.Dropping.{keeps-one, keeper-ours}
-use Rattle.greedy.proofs.Laying.{lays-stand, lays-add, lays-twice, never-stuck-rule}
+use Rattle.greedy.proofs.Laying.{lays-stand, lays-add, lays-twice}
 
 module _ (turn : List ℕ → List ℕ) where
   -- Ours meets the rules.
   reads-ours : (ks : List (List ℕ))
-      → Reads turn ks (layoutOf (length ks) (shared turn ks) .joins)
+      → Reads turn ks (layoutOf (length ks) (shared turn ks))
       (readPiece turn ks (orderFor turn ks)) (savedAlong turn ks (orderFor turn ks))
   reads-ours [] =
       record {
@@ -46,7 +46,7 @@ module _ (turn : List ℕ → List ℕ) where
   lays-ours cs =
       record {
         ks = kept turn cs;
-        js = layoutOf (length (kept turn cs)) (shared turn (kept turn cs)) .joins;
+        js = layoutOf (length (kept turn cs)) (shared turn (kept turn cs));
         keeps = keeper-ours (is-some-way turn) cs;
         joins = joins-ours (length (kept turn cs)) (shared turn (kept turn cs));
         reads = reads-ours (kept turn cs);
@@ -102,8 +102,6 @@ each-laid turn t cs =
       all-stand = lays-stand t ours;
       adds-up = lays-add t ours (kept turn cs) keeps;
       at-most-twice = lays-twice t ours;
-      never-stuck = never-stuck-rule;
-      never-found-stuck = never-stuck (length (kept turn cs)) (shared turn (kept turn cs));
     }
 
 -- The ribbons by hand: the table, with what ours gives in its place, is the table.

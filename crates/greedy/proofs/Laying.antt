@@ -17,15 +17,14 @@ use Rattle.words.proofs.Lists.{in-each}
 use Rattle.words.proofs.Standing.{is-some-way}
 use Rattle.lists.specs.Runs.{total, lengths}
 use Rattle.joins.specs.Faces.{mirror, Join}
-use Rattle.joins.specs.Rules.{Allowed, Largest, Remains, Joins}
+use Rattle.joins.specs.Rules.{Largest, Joins}
 use Rattle.joins.proofs.Sums.{sum}
 use Rattle.joins.proofs.Mirrors.{mirror-half}
 use Rattle.joins.proofs.Greedy.{alone-along}
-use Rattle.joins.proofs.Runs.{all-allowed, goes-on, last-sum, last-holds, last-twice}
-use Rattle.joins.proofs.Rounds.{all-largest}
+use Rattle.joins.proofs.Runs.{last-sum, last-holds, last-twice}
 use Rattle.greedy.specs.Dropping.{codeAt, Keeps}
 use Rattle.greedy.specs.Reading.{shared, readPiece}
-use Rattle.greedy.specs.Rules.{Reads, Lays, Stuck, AllStand, AtMostTwice}
+use Rattle.greedy.specs.Rules.{Reads, Lays, AllStand, AtMostTwice}
 use Rattle.greedy.proofs.Dropping.{keeps-one}
 use Rattle.greedy.proofs.Keeping.{holding, in-code, keeps-apart, keeps-stand, stand-keeps}
 use Rattle.greedy.proofs.Faces.{length-mirror, face-stands, shared-even, shared-monge}
@@ -125,11 +124,3 @@ module _ {turn : List ℕ → List ℕ} (t : Turning turn) where
         let o = rival t (lays .ks) row (keeps-apart (holding t) (lays .keeps)) on′ in
         let b = bound (lays .ks) (lays .joins) (lays .reads) o in
         subst (λ (l : List (List ℕ)). total (lengths l) ≤ length row + 2 * saved) (keeps-one (lays .keeps) k) b
-
--- No list gets stuck: until one mirrored pair of pieces is left, some join is allowed.
-pub never-stuck-rule : {turn : List ℕ → List ℕ} {cs : List (List ℕ)} → Stuck turn cs → ⊥
-never-stuck-rule x = go (goes-on (all-allowed (all-largest (x .rounds))))
-  where
-    go : Remains (length (x .ks)) (x .js) ⊎ ((a : ℕ) × (b : ℕ) × Allowed (length (x .ks)) (x .js) a b) → ⊥
-    go (inl r) = x .several r
-    go (inr j) = x .none (j .0) (j .1) (j .2)

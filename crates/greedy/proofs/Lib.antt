@@ -10,3 +10,4 @@ pub mod Impostors
 pub mod Answers
 pub mod WrongCalls
 pub mod Room
+pub mod Bands

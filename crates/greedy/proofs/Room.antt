@@ -9,6 +9,7 @@ use lib.ListN.{length}
 use borrow.Author.Tests.{le-ltb}
 use Rattle.words.specs.Lists.{Each}
 use Rattle.words.specs.Turn.{turned}
+use Rattle.words.proofs.Lists.{each-at, each-map}
 use Rattle.words.proofs.Turning.{turning}
 use Rattle.lists.specs.Runs.{codesIn, total, lengths}
 use Rattle.lists.specs.Rules.{CodeRule}
@@ -23,9 +24,9 @@ use Rattle.words.specs.Stand.{someWay}
 use Rattle.greedy.proofs.Claims.{each-laid}
 
 code-short : (cs : List (List ℕ)) → Each CodeRule cs → (i : ℕ) → length (codeAt cs i) ≤ 64
-code-short [] h i = omega arith
-code-short (c ∷ cs) h zero = h .0 .1
-code-short (c ∷ cs) h (suc i) = code-short cs (h .1) i
+code-short cs h i =
+    let short = each-map CodeRule (λ c. length c ≤ 64) (λ c r. r .1) cs h in
+    each-at (λ c. length c ≤ 64) cs [] (omega arith) short i
 
 total-short : (cs : List (List ℕ)) → Each CodeRule cs → (is : List ℕ)
     → total (lengths (map (codeAt cs) is)) ≤ 64 * length is
@@ -59,5 +60,4 @@ ribbon-at-most run ls ok =
 pub accepts : (run ls buffer : List ℕ) → listOk run ls ≡ true → length (ribbonFor turned (codesIn run ls)) ≤ length buffer
     → layOutcome run ls buffer .answer ≡ laid (length (ribbonFor turned (codesIn run ls))) (savedBy turned (codesIn run ls))
 accepts run ls buffer ok room =
-    let e = each-laid turned turning (codesIn run ls) .never-found-stuck in
-    rw (layOutcome, ok, e, le-ltb (length buffer) (length (ribbonFor turned (codesIn run ls))) room)
+    rw (layOutcome, ok, le-ltb (length buffer) (length (ribbonFor turned (codesIn run ls))) room)

@@ -1,28 +1,33 @@
 -- Wrong calls that lay out a list, each written out and caught by the claim on a named list and buffer.
 use mathlib.Core.Path.{_≡_, ap}
 use mathlib.Core.Logic.{_≢_}
+use mathlib.Core.Bool.{_&&_}
 use mathlib.Core.List.{List, [], _∷_, map}
 use Prim.Native.Nat.{ℕ}
 use native.Mathlib.Omega.{arith}
-use lib.Dec.{ltb}
+use lib.Dec.{eqb, ltb}
 use lib.ListN.{length, getD}
 use Rattle.words.specs.Tests.{pick}
 use Rattle.words.specs.Turn.{turned}
 use Rattle.words.specs.Texts.{text}
-use Rattle.lists.specs.Refusals.{whole, falseList, stuck, shortBuffer}
+use Rattle.lists.specs.Refusals.{whole, falseList, shortBuffer}
 use Rattle.lists.specs.Outcome.{outcome}
 use Rattle.lists.specs.Runs.{codesIn, over}
-use Rattle.greedy.specs.Layout.{ribbonFor}
+use Rattle.greedy.specs.Layout.{ribbonFor, savedBy}
 use Rattle.greedy.specs.Answers.{LayOutcome, refused, laid, LaysOut, layOutcome}
 use Rattle.greedy.proofs.Answers.{lays-out-only}
 
 abbrev Call : Type 0
 Call = List ℕ → List ℕ → List ℕ → LayOutcome
 
--- the list AB, into a given buffer
+-- the list AB, cut by some lengths, into a given buffer
+caught-by : (ls : List ℕ) (call : Call) (buffer : List ℕ) (look : LayOutcome → ℕ)
+    → look (call (text "AB") ls buffer) ≢ look (layOutcome (text "AB") ls buffer) → LaysOut call → ⊥
+caught-by ls call buffer look d h = d (ap look (lays-out-only call h (text "AB") ls buffer))
+
 caught : (call : Call) (buffer : List ℕ) (look : LayOutcome → ℕ)
     → look (call (text "AB") (2 ∷ []) buffer) ≢ look (layOutcome (text "AB") (2 ∷ []) buffer) → LaysOut call → ⊥
-caught call buffer look d h = d (ap look (lays-out-only call h (text "AB") (2 ∷ []) buffer))
+caught = caught-by (2 ∷ [])
 
 abbrev number : LayOutcome → ℕ
 number o = elim (o .answer) [ refused r ↦ r .number | laid b s ↦ 0 ]
@@ -30,20 +35,13 @@ number o = elim (o .answer) [ refused r ↦ r .number | laid b s ↦ 0 ]
 abbrev byte : ℕ → LayOutcome → ℕ
 byte i o = getD (o .after) i 0
 
--- every list turned away; stuck before any search; 13 for every buffer under 8,192 bytes
+-- every list turned away; 13 for every buffer under 8,192 bytes
 abbrev allTurnedAway : Call
 allTurnedAway run ls buffer = outcome (refused (whole falseList)) buffer
 
 pub not-all-turned-away : LaysOut allTurnedAway → ⊥
 unfolding turned
 not-all-turned-away = caught allTurnedAway (7 ∷ 7 ∷ []) number (λ e. omega arith)
-
-abbrev stuckAtOnce : Call
-stuckAtOnce run ls buffer = outcome (refused (whole stuck)) buffer
-
-pub not-stuck-at-once : LaysOut stuckAtOnce → ⊥
-unfolding turned
-not-stuck-at-once = caught stuckAtOnce (7 ∷ 7 ∷ []) number (λ e. omega arith)
 
 abbrev shortAtOnce : Call
 shortAtOnce run ls buffer =
@@ -52,6 +50,18 @@ shortAtOnce run ls buffer =
 pub not-short-at-once : LaysOut shortAtOnce → ⊥
 unfolding turned
 not-short-at-once = caught shortAtOnce (7 ∷ 7 ∷ []) number (λ e. omega arith)
+
+-- the retired number, 14, where several codes share nothing, as if no join of overlap 0 were allowed; on A and B
+abbrev retiredNumber : Call
+retiredNumber run ls buffer =
+    pick
+    (ltb 1 (length ls) && eqb (savedBy turned (codesIn run ls)) 0)
+    (outcome (refused (whole 14)) buffer)
+    (layOutcome run ls buffer)
+
+pub not-retired-number : LaysOut retiredNumber → ⊥
+unfolding turned
+not-retired-number = caught-by (1 ∷ 1 ∷ []) retiredNumber (7 ∷ 7 ∷ []) number (λ e. omega arith)
 
 -- an untouched buffer; a byte written before a refusal; the buffer past the ribbon cleared
 abbrev untouched : Call

@@ -7,15 +7,15 @@ use lib.Dec.{eqb, ltb}
 use lib.ListN.{length}
 use Rattle.words.specs.Turn.{turned}
 use Rattle.words.specs.Stand.{StandsSomeWay}
-use Rattle.lists.specs.Refusals.{Refusal, whole, falseList, stuck, shortBuffer, when, firstOf}
+use Rattle.lists.specs.Refusals.{Refusal, whole, falseList, shortBuffer, when, firstOf}
 use Rattle.lists.specs.Outcome.{Outcome, outcome}
 use Rattle.lists.specs.Runs.{codesIn, total, lengths, over}
 use Rattle.lists.specs.Rules.{FalseCodes}
 use Rattle.lists.specs.Fit.{listOk}
 use Rattle.joins.specs.Rules.{Chosen}
 use Rattle.greedy.specs.Dropping.{Keeps}
-use Rattle.greedy.specs.Rules.{Lays, Stuck, AllStand, AtMostTwice}
-use Rattle.greedy.specs.Layout.{ribbonFor, savedBy, isStuck}
+use Rattle.greedy.specs.Rules.{Lays, AllStand, AtMostTwice}
+use Rattle.greedy.specs.Layout.{ribbonFor, savedBy}
 
 -- refused; or laid out, with the ribbon's length and what it saves
 pub data LayAnswer : Type 0 where
@@ -25,12 +25,11 @@ pub data LayAnswer : Type 0 where
 abbrev pub LayOutcome : Type 0
 LayOutcome = Outcome LayAnswer (List ℕ)
 
--- The claim on a call: 12, then 14, then 13, each under its condition; a refused call changes no lent byte, and on success
--- the buffer past the ribbon keeps what it had.
+-- The claim on a call: 12, then 13, each under its condition; a refused call changes no lent byte, and on success the buffer
+-- past the ribbon keeps what it had.
 module _ (run ls buffer : List ℕ) where
   pub data LaysInto : LayOutcome → Type 0 where
     false-list : FalseCodes run ls → LaysInto (outcome (refused (whole falseList)) buffer)
-    no-join : (FalseCodes run ls → ⊥) → Stuck turned (codesIn run ls) → LaysInto (outcome (refused (whole stuck)) buffer)
     short-buffer : {ribbon : List ℕ} {saved : ℕ} → (FalseCodes run ls → ⊥)
         → Lays Chosen turned (codesIn run ls) ribbon saved → length buffer < length ribbon
         → LaysInto (outcome (refused (whole shortBuffer)) buffer)
@@ -45,8 +44,7 @@ LaysOut call = (run ls buffer : List ℕ) → LaysInto run ls buffer (call run l
 abbrev pub layFault : List ℕ → List ℕ → ℕ → ℕ
 layFault run ls room =
     let cs = codesIn run ls in
-    firstOf (when (not (listOk run ls)) falseList)
-    (firstOf (when (isStuck turned cs) stuck) (when (ltb room (length (ribbonFor turned cs))) shortBuffer))
+    firstOf (when (not (listOk run ls)) falseList) (when (ltb room (length (ribbonFor turned cs))) shortBuffer)
 
 abbrev pub layOutcome : List ℕ → List ℕ → List ℕ → LayOutcome
 layOutcome run ls buffer =

@@ -1,6 +1,5 @@
 -- Demands 2 and 3 about a list and its ribbon.
 use mathlib.Core.Path.{_≡_}
-use mathlib.Core.Bool.{false}
 use mathlib.Core.List.{List}
 use Prim.Native.Nat.{ℕ, _+_}
 use lib.ListN.{length}
@@ -8,8 +7,8 @@ use Rattle.words.specs.Turn.{Turning}
 use Rattle.lists.specs.Runs.{total, lengths}
 use Rattle.joins.specs.Rules.{Chosen}
 use Rattle.greedy.specs.Dropping.{kept}
-use Rattle.greedy.specs.Rules.{Lays, Stuck, AllStand, AtMostTwice}
-use Rattle.greedy.specs.Layout.{ribbonFor, savedBy, isStuck}
+use Rattle.greedy.specs.Rules.{Lays, AllStand, AtMostTwice}
+use Rattle.greedy.specs.Layout.{ribbonFor, savedBy}
 
 pub record Laid (turn : List ℕ → List ℕ) (cs : List (List ℕ)) : Type 0 where
   -- the ribbon is the one of Greedy-R2 with our tie rule,
@@ -20,9 +19,6 @@ pub record Laid (turn : List ℕ → List ℕ) (cs : List (List ℕ)) : Type 0 w
   pub adds-up : length (ribbonFor turn cs) + savedBy turn cs ≡ total (lengths (kept turn cs))
   -- demand 3, of the saved that we report
   pub at-most-twice : AtMostTwice turn cs (savedBy turn cs)
-  -- no list gets stuck, by the rule and as it is computed
-  pub never-stuck : Stuck turn cs → ⊥
-  pub never-found-stuck : isStuck turn cs ≡ false
 
 -- for every list, and for every way of turning
 abbrev pub EachLaid : Type 0

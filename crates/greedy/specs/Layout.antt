@@ -1,9 +1,8 @@
 -- The layout computed, in three stages: the kept codes, the order of their faces, the ribbon of that order.
-use mathlib.Core.Bool.{Bool}
 use mathlib.Core.List.{List}
 use Prim.Native.Nat.{ℕ}
 use lib.ListN.{length}
-use Rattle.joins.specs.Rounds.{layoutOf, orderOf}
+use Rattle.joins.specs.Rounds.{orderOf}
 use Rattle.greedy.specs.Dropping.{kept}
 use Rattle.greedy.specs.Reading.{shared, readPiece, savedAlong}
 
@@ -16,6 +15,3 @@ module _ (turn : List ℕ → List ℕ) where
 
   abbrev pub savedBy : List (List ℕ) → ℕ
   savedBy cs = let ks = kept turn cs in savedAlong turn ks (orderFor ks)
-
-  abbrev pub isStuck : List (List ℕ) → Bool
-  isStuck cs = let ks = kept turn cs in layoutOf (length ks) (shared turn ks) .stuck

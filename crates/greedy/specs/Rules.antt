@@ -8,7 +8,7 @@ use Rattle.words.specs.Lists.{In, Each}
 use Rattle.words.specs.Stand.{StandsSomeWay}
 use Rattle.lists.specs.Runs.{total, lengths}
 use Rattle.joins.specs.Faces.{Join}
-use Rattle.joins.specs.Rules.{IsPiece, Allowed, Chosen, Run, Remains, Joins}
+use Rattle.joins.specs.Rules.{IsPiece, Joins}
 use Rattle.greedy.specs.Dropping.{Keeps}
 use Rattle.greedy.specs.Reading.{shared, readPiece, savedAlong}
 
@@ -31,15 +31,6 @@ pub record Lays (Picks : Picking) (turn : List ℕ → List ℕ) (cs : List (Lis
   pub keeps : Keeps (StandsSomeWay turn) cs ks
   pub joins : Joins (Picks (length ks) (shared turn ks)) (length ks) js
   pub reads : Reads turn ks js ribbon saved
-
--- Number 14: several pieces remain and no join is allowed.
-pub record Stuck (turn : List ℕ → List ℕ) (cs : List (List ℕ)) : Type 0 where
-  pub ks : List (List ℕ)
-  pub js : List Join
-  pub keeps : Keeps (StandsSomeWay turn) cs ks
-  pub rounds : Run (Chosen (length ks) (shared turn ks)) js
-  pub several : Remains (length ks) js → ⊥
-  pub none : (a b : ℕ) → Allowed (length ks) js a b → ⊥
 
 -- every code of the list stands on the row, one way or the other
 abbrev pub AllStand : (List ℕ → List ℕ) → List (List ℕ) → List ℕ → Type 0

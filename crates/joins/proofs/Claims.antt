@@ -16,7 +16,7 @@ use Rattle.joins.proofs.Ruled.{piece-of, same-piece}
 use Rattle.joins.proofs.Runs.{all-allowed, finished}
 use Rattle.joins.proofs.Rounds.{all-largest, joins-ours}
 
-pub joiner-ours : Joiner (λ n w. layoutOf n w .joins)
+pub joiner-ours : Joiner layoutOf
 joiner-ours n w = joins-ours n w
 
 module _ {n : ℕ} {w : ℕ → ℕ → ℕ} where
@@ -86,7 +86,7 @@ module _ {n : ℕ} {w : ℕ → ℕ → ℕ} where
       go (yes h) = done-one x (y .rounds) h
       go (no m) = sym (done-one y (x .rounds) (omega arith))
 
-  pub joins-only : {js : List Join} → Joins (Chosen n w) n js → js ≡ layoutOf n w .joins
+  pub joins-only : {js : List Join} → Joins (Chosen n w) n js → js ≡ layoutOf n w
   joins-only x = joins-one x (joins-ours n w)
 
   -- and one piece of them holds face 0
@@ -97,5 +97,5 @@ module _ {n : ℕ} {w : ℕ → ℕ → ℕ} where
       same-piece js p q 0 (piece-of a p P) (piece-of a q Q) x y
 
 pub joiner-only : (make : ℕ → (ℕ → ℕ → ℕ) → List Join) → Joiner make → (n : ℕ) (w : ℕ → ℕ → ℕ)
-    → make n w ≡ layoutOf n w .joins
+    → make n w ≡ layoutOf n w
 joiner-only make h n w = joins-only (h n w)

@@ -60,16 +60,16 @@ stopping t = record { allows = right .allows; prefers = right .prefers; stops = 
 abbrev recording : (Join → List Join → List Join) → Planner
 recording t = record { allows = right .allows; prefers = right .prefers; stops = right .stops; records = t }
 
-pub right-is-ours : (n : ℕ) (w : ℕ → ℕ → ℕ) → plan right n w ≡ layoutOf n w .joins
+pub right-is-ours : (n : ℕ) (w : ℕ → ℕ → ℕ) → plan right n w ≡ layoutOf n w
 right-is-ours n w = from (n - 1) []
   where
-    from : (f : ℕ) (js : List Join) → planFrom f right n w js ≡ roundsFrom f n w js .joins
+    from : (f : ℕ) (js : List Join) → planFrom f right n w js ≡ roundsFrom f n w js
     from zero js = refl
     from (suc f) js = go (bestJoin n w js) refl (from f)
       where
         go : (x : Best) → bestJoin n w js ≡ x
-            → ((ls : List Join) → planFrom f right n w ls ≡ roundsFrom f n w ls .joins)
-            → planFrom (suc f) right n w js ≡ roundsFrom (suc f) n w js .joins
+            → ((ls : List Join) → planFrom f right n w ls ≡ roundsFrom f n w ls)
+            → planFrom (suc f) right n w js ≡ roundsFrom (suc f) n w js
         go none e later = rw (e, planFrom, roundsFrom)
         go (best j) e later = rw (e, planFrom, roundsFrom) (later (joinBoth (j .left) (j .right) js))
 
@@ -111,7 +111,7 @@ facesIn (j ∷ js) = j .left ∷ (j .right ∷ facesIn js)
 abbrev oursAt : List (List ℕ) → (ℕ → (ℕ → ℕ → ℕ) → List Join) → Bool
 oursAt cs make =
     let n = length cs in
-    same (facesIn (make n (overlapsOf cs))) (facesIn (layoutOf n (overlapsOf cs) .joins))
+    same (facesIn (make n (overlapsOf cs))) (facesIn (layoutOf n (overlapsOf cs)))
 
 caught : {make : ℕ → (ℕ → ℕ → ℕ) → List Join} (cs : List (List ℕ)) → oursAt cs make ≡ false → Joiner make → ⊥
 caught {make} cs e h =
@@ -219,7 +219,7 @@ pub not-list-order : Joiner (plan (allowing listOrder)) → ⊥
 unfolding turned
 not-list-order = caught sharing refl
 
--- When the rounds end: when the best overlap is 0; at once, as if stuck
+-- When the rounds end: when the best overlap is 0; at once, as if no join were allowed
 abbrev atZero : (ℕ → ℕ → ℕ) → Join → Bool
 atZero w j = eqb (overlapBy w j) 0
 

@@ -20,6 +20,7 @@ pub mod Runs
 pub mod Search
 pub mod Ties
 pub mod Rounds
+pub mod Ends
 pub mod Order
 -- The row of the joining routines: walked, stored into, written out.
 pub mod Walks

@@ -55,20 +55,20 @@ held-below {p = p} i f u =
 
 -- the piece that our joins leave
 module _ (n : ℕ) (w : ℕ → ℕ → ℕ) (some : 1 ≤ n) where
-  r : Run (Allowed n) (layoutOf n w .joins)
+  r : Run (Allowed n) (layoutOf n w)
   r = all-allowed (all-largest (joins-ours n w .rounds))
 
   pub record Ordered (p : List ℕ) : Type 0 where
-    pub piece : IsPiece (layoutOf n w .joins) p
+    pub piece : IsPiece (layoutOf n w) p
     pub zero-in : In 0 p
     pub short : length p ≤ n
     pub within : Each (λ (f : ℕ). f < 2 * n) p
 
-  ordered : (Q : List (List ℕ)) → State n (layoutOf n w .joins) Q → Held 0 Q → Ordered (orderOf n w)
+  ordered : (Q : List (List ℕ)) → State n (layoutOf n w) Q → Held 0 Q → Ordered (orderOf n w)
   ordered Q i H =
       let j = state-arr i (H .first) in
       let P = j .pieces .0 in
-      let e = read-piece n (layoutOf n w .joins) (H .piece) P (omega (arith, state-size j)) (H .holds) in
+      let e = read-piece n (layoutOf n w) (H .piece) P (omega (arith, state-size j)) (H .holds) in
       let short : length (H .piece) ≤ n = omega (arith, state-size j) in
       let in-range = in-each (λ (f : ℕ). f < 2 * n) (H .piece) (λ f i. held-below j f i) in
       rw e (record { piece = is-piece r (H .piece) P; zero-in = H .holds; short = short; within = in-range })

@@ -9,6 +9,7 @@ use lib.ListN.{getD}
 use Rattle.words.specs.Lists.{In}
 use Rattle.joins.specs.Faces.{mirror, Join, join, joinBoth, lastOf}
 use Rattle.joins.specs.Rules.{Allowed, Chosen, Run, start, round, Remains}
+use Rattle.joins.specs.Ends.{Some}
 use Rattle.joins.specs.Rounds.{afterIn, endFrom, layoutOf}
 use Rattle.joins.specs.Rows.{Records, Unjoined, Laid, EndsAt}
 use Rattle.joins.specs.Pass.{Passed, PassedRow, Joinable}
@@ -146,12 +147,12 @@ module _ {n : ℕ} {w : ℕ → ℕ → ℕ} where
         let z : w c d ≡ 0 = omega (arith, P .larger c d A) in
         omega (arith, P .lower c d A z, A .faces .0)
 
-    pub pass-end : js ≡ layoutOf n w .joins
+    pub pass-end : js ≡ layoutOf n w
     pass-end = go (goes-on (made (P .run)))
       where
-        go : Remains n js ⊎ ((a : ℕ) × (b : ℕ) × Allowed n js a b) → js ≡ layoutOf n w .joins
+        go : Remains n js ⊎ Some (Allowed n) js → js ≡ layoutOf n w
         go (inl e) = joins-only (record { rounds = P .run; remains = e })
-        go (inr x) = absurd (none-left (x .0) (x .1) (x .2))
+        go (inr s) = absurd (none-left (s .a) (s .b) (s .picked))
 
 -- By the row: from a face that ends a piece, what the row lets it join is what is allowed.
 -- The end of the piece that f begins, mirrored, begins the piece that f's mirror ends.

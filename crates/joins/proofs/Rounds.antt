@@ -1,36 +1,39 @@
 -- Our rounds: each finds the join that the rule chooses, none lacks a join, and in the end two mirrored pieces remain.
 use mathlib.Core.Path.{_≡_, refl, sym, subst, _∙_}
 use mathlib.Core.Logic.{inl, inr}
-use mathlib.Core.Bool.{false, true≢false}
+use mathlib.Core.Bool.{true≢false}
 use mathlib.Core.List.{List, [], _∷_}
 use Prim.Native.Nat.{ℕ, zero, suc, _+_, _-_, _*_, _≤_}
 use native.Mathlib.Omega.{arith}
 use lib.ListN.{length}
 use Rattle.words.proofs.Deciding.{holds, fails, passes, not-lt}
-use Rattle.joins.specs.Faces.{Join, join, joinBoth, headOf, lastOf}
+use Rattle.joins.specs.Faces.{Join, join, joinBoth}
 use Rattle.joins.specs.Rules.{Allowed, Largest, Chosen, Run, start, round, Remains, Joins}
-use Rattle.joins.specs.Rounds.{allowed, Best, none, best, pairs, below, bestJoin, Layout, roundsFrom, layoutOf}
+use Rattle.joins.specs.Ends.{Some}
+use Rattle.joins.specs.Rounds.{allowed, Best, none, best, pairs, below, bestJoin, roundsFrom, layoutOf}
 use Rattle.joins.proofs.State.{State}
-use Rattle.joins.proofs.Allowed.{is-allowed, pair-open, pair-left, pair-right}
+use Rattle.joins.proofs.Allowed.{is-allowed}
 use Rattle.joins.proofs.Ruled.{run-map, open-allowed, allowed-open}
-use Rattle.joins.proofs.Runs.{all-allowed, Reached, reached, none-left, one-left}
+use Rattle.joins.proofs.Runs.{all-allowed, Reached, reached-allowed, none-left, one-left, two-join}
 use Rattle.joins.proofs.Search.{BestIn, Searched, searched, all-pairs, only-pairs}
 use Rattle.joins.proofs.Ties.{Beats, is-better, comparison}
 
 pub all-largest : {n : ℕ} {w : ℕ → ℕ → ℕ} {js : List Join} → Run (Chosen n w) js → Run (Largest n w) js
 all-largest r = run-map (λ ls a b c. c .largest) r
 
+-- the rule chooses among allowed joins
+pub chosen-allowed : {n : ℕ} {w : ℕ → ℕ → ℕ} {js : List Join} → Run (Chosen n w) js → Run (Allowed n) js
+chosen-allowed r = all-allowed (all-largest r)
+
 module _ (n : ℕ) (w : ℕ → ℕ → ℕ) where
   -- all joins that are tried
   abbrev tried : List Join
   tried = pairs (below (2 * n)) (below (2 * n))
 
-  module _ {js : List Join} (r : Run (Chosen n w) js) where
-    made : Run (Allowed n) js
-    made = all-allowed (all-largest r)
-
-    R : Reached n w js
-    R = reached (all-largest r)
+  -- after whichever allowed joins
+  module _ {js : List Join} (r : Run (Allowed n) js) where
+    R : Reached n (λ a b. 0) js
+    R = reached-allowed r
 
     -- the join that is best by the comparison is the one that the rule chooses,
     chosen : (j : Join) → BestIn (comparison w) (allowed n js) tried j → Chosen n w js (j .left) (j .right)
@@ -45,62 +48,68 @@ module _ (n : ℕ) (w : ℕ → ℕ → ℕ) where
         by-rule =
             let l = only-pairs (2 * n) j (b .listed) in
             let o = holds (is-allowed n js (j .left) (j .right)) (b .allowed) in
-            open-allowed made (R .state) (j .left) (j .right) (l .0) (l .1) o
+            open-allowed r (R .state) (j .left) (j .right) (l .0) (l .1) o
 
         unbeaten : (c d : ℕ) → Allowed n js c d → Beats w (join c d) j → ⊥
         unbeaten c d A =
-            let may = passes (is-allowed n js c d) (allowed-open made (R .state) c d A) in
+            let may = passes (is-allowed n js c d) (allowed-open r (R .state) c d A) in
             let i = all-pairs (2 * n) c d (A .faces .0) (A .faces .1) in
             fails (is-better w (join c d) j) (b .unbeaten (join c d) i may)
 
-    -- and there is one while two pieces are left
-    not-none : (Q : List (List ℕ)) → State n js Q → 2 ≤ length Q → Searched (comparison w) (allowed n js) tried none → ⊥
-    not-none [] i l h = omega arith
-    not-none (p ∷ []) i l h = omega arith
-    not-none (p ∷ (q ∷ Q)) i l h =
-        let may = passes (is-allowed n js (lastOf p) (headOf q)) (pair-open i) in
-        true≢false (sym may ∙ h _ (all-pairs (2 * n) (lastOf p) (headOf q) (pair-left i) (pair-right i)))
+    -- and the search finds it where any is allowed
+    not-none : Some (Allowed n) js → Searched (comparison w) (allowed n js) tried none → ⊥
+    not-none s h =
+        let A = s .picked in
+        let may = passes (is-allowed n js (s .a) (s .b)) (allowed-open r (R .state) (s .a) (s .b) A) in
+        true≢false (sym may ∙ h _ (all-pairs (2 * n) (s .a) (s .b) (A .faces .0) (A .faces .1)))
 
-    -- when one is left, it remains with its mirror
+    pub some-chosen : Some (Allowed n) js → Some (Chosen n w) js
+    some-chosen s = go (bestJoin n w js) (searched (comparison w) (allowed n js) tried)
+      where
+        go : (x : Best) → Searched (comparison w) (allowed n js) tried x → Some (Chosen n w) js
+        go none h = absurd (not-none s h)
+        go (best j) b = record { a = j .left; b = j .right; picked = chosen j b }
+
+    -- one is allowed while two pieces are left,
+    two-left : (Q : List (List ℕ)) → State n js Q → 2 ≤ length Q → Some (Allowed n) js
+    two-left [] i l = absurd (omega arith)
+    two-left (p ∷ []) i l = absurd (omega arith)
+    two-left (p ∷ (q ∷ Q)) i l = two-join r i
+
+    -- and when one is left, it remains with its mirror
     remains : (Q : List (List ℕ)) → State n js Q → length Q ≡ 1 → Remains n js
     remains [] i l = absurd (omega arith)
-    remains (p ∷ []) i l = one-left made p i
+    remains (p ∷ []) i l = one-left r p i
     remains (p ∷ (q ∷ Q)) i l = absurd (omega arith)
 
-  pub record Ended (l : Layout) : Type 0 where
-    pub unstuck : l .stuck ≡ false
-    pub joins : Joins (Chosen n w) n (l .joins)
-
   -- f rounds are left to go
-  rounds : (f : ℕ) (js : List Join) → Run (Chosen n w) js → 2 * suc f + length js ≡ 2 * n → Ended (roundsFrom f n w js)
+  pub rounds : (f : ℕ) (js : List Join) → Run (Chosen n w) js → 2 * suc f + length js ≡ 2 * n
+      → Joins (Chosen n w) n (roundsFrom f n w js)
   rounds zero js r e =
-      record {
-        unstuck = refl;
-        joins = record { rounds = r; remains = remains r (R r .pieces) (R r .state) (omega (arith, R r .count)) };
-      }
+      let made = chosen-allowed r in
+      let M = R made in
+      record { rounds = r; remains = remains made (M .pieces) (M .state) (omega (arith, M .count)) }
   rounds (suc f) js r e = go (bestJoin n w js) refl (searched (comparison w) (allowed n js) tried) (rounds f)
     where
+      made : Run (Allowed n) js
+      made = chosen-allowed r
+
       go : (x : Best) → bestJoin n w js ≡ x → Searched (comparison w) (allowed n js) tried (bestJoin n w js)
-          → ((ls : List Join) → Run (Chosen n w) ls → 2 * suc f + length ls ≡ 2 * n → Ended (roundsFrom f n w ls))
-          → Ended (roundsFrom (suc f) n w js)
+          → ((ls : List Join) → Run (Chosen n w) ls → 2 * suc f + length ls ≡ 2 * n
+          → Joins (Chosen n w) n (roundsFrom f n w ls))
+          → Joins (Chosen n w) n (roundsFrom (suc f) n w js)
       go none q s later =
           let h = subst (Searched (comparison w) (allowed n js) tried) q s in
-          absurd (not-none r (R r .pieces) (R r .state) (omega (arith, R r .count)) h)
+          let M = R made in
+          absurd (not-none made (two-left made (M .pieces) (M .state) (omega (arith, M .count))) h)
       go (best j) q s later =
           let b = subst (Searched (comparison w) (allowed n js) tried) q s in
           let o : roundsFrom (suc f) n w js ≡ roundsFrom f n w (joinBoth (j .left) (j .right) js) = rw (q, roundsFrom) in
-          rw o (later _ (round r (chosen r j b)) (omega arith))
+          rw o (later _ (round r (chosen made j b)) (omega arith))
 
 -- no codes: nothing is joined, and nothing is left
-pub layout-ended : (n : ℕ) (w : ℕ → ℕ → ℕ) → Ended n w (layoutOf n w)
-layout-ended zero w = record { unstuck = refl; joins = record { rounds = start; remains = none-left start refl } }
-layout-ended (suc m) w =
+pub joins-ours : (n : ℕ) (w : ℕ → ℕ → ℕ) → Joins (Chosen n w) n (layoutOf n w)
+joins-ours zero w = record { rounds = start; remains = none-left start refl }
+joins-ours (suc m) w =
     let n = suc m in
     rounds n w (n - 1) [] start (omega arith)
-
--- Number 14 is never given.
-pub never-stuck : (n : ℕ) (w : ℕ → ℕ → ℕ) → layoutOf n w .stuck ≡ false
-never-stuck n w = layout-ended n w .unstuck
-
-pub joins-ours : (n : ℕ) (w : ℕ → ℕ → ℕ) → Joins (Chosen n w) n (layoutOf n w .joins)
-joins-ours n w = layout-ended n w .joins

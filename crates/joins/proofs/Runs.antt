@@ -9,6 +9,7 @@ use lib.ListN.{length}
 use Rattle.words.specs.Lists.{In}
 use Rattle.joins.specs.Faces.{mirror, Join, joinBoth, headOf, lastOf}
 use Rattle.joins.specs.Rules.{IsPiece, Allowed, Largest, Run, start, round, Remains, Joins, along}
+use Rattle.joins.specs.Ends.{Some}
 use Rattle.joins.proofs.Sums.{sum}
 use Rattle.joins.proofs.Pieces.{flip, flip-flip, head-flip, in-head, in-last, in-flip, times-in}
 use Rattle.joins.proofs.Arrange.{Arr, arr-same, arr-flip, arr-length}
@@ -126,7 +127,7 @@ module _ {n : ℕ} {js : List Join} (r : Run (Allowed n) js) (e : Remains n js) 
       go (inr c) (inl d) = mirrors (d ∙ sym (ap flip c ∙ flip-flip (e .p)))
       go (inr c) (inr d) = A .different (c ∙ sym d)
 
--- Never stuck: until two mirrored pieces remain, some join is allowed, if only one of overlap 0.
+-- Rounds go on: until two mirrored pieces remain, some join is allowed, if only one of overlap 0.
 nothing-joined : {js : List Join} → Run (Allowed 0) js → js ≡ []
 nothing-joined start = refl
 nothing-joined (round r c) = absurd (omega (arith, c .faces))
@@ -151,17 +152,30 @@ one-left r p i =
       every = λ f l. times-in f p (omega (arith, state-all i (f / 2) (omega arith)));
     }
 
-pub goes-on : {n : ℕ} {js : List Join} → Run (Allowed n) js → Remains n js ⊎ ((a : ℕ) × (b : ℕ) × Allowed n js a b)
+-- any allowed join is a largest one where all weigh the same
+pub reached-allowed : {n : ℕ} {js : List Join} → Run (Allowed n) js → Reached n (λ a b. 0) js
+reached-allowed r = reached (run-map (λ ls a b c. record { allowed = c; most = λ x y d. omega arith }) r)
+
+-- of two pieces the end of the one may be joined to the beginning of the other
+pub two-join : {n : ℕ} {js : List Join} {p q : List ℕ} {Q : List (List ℕ)} → Run (Allowed n) js
+    → State n js (p ∷ (q ∷ Q)) → Some (Allowed n) js
+two-join {p = p} {q = q} r i =
+    record {
+      a = lastOf p;
+      b = headOf q;
+      picked = open-allowed r i (lastOf p) (headOf q) (pair-left i) (pair-right i) (pair-open i);
+    }
+
+pub goes-on : {n : ℕ} {js : List Join} → Run (Allowed n) js → Remains n js ⊎ Some (Allowed n) js
 goes-on {n} {js} r = go (M .pieces) (M .state)
   where
     M : Reached n (λ a b. 0) js
-    M = reached (run-map (λ ls a b c. record { allowed = c; most = λ x y d. omega arith }) r)
+    M = reached-allowed r
 
-    go : (Q : List (List ℕ)) → State n js Q → Remains n js ⊎ ((a : ℕ) × (b : ℕ) × Allowed n js a b)
+    go : (Q : List (List ℕ)) → State n js Q → Remains n js ⊎ Some (Allowed n) js
     go [] i = inl (none-left r (state-size i))
     go (p ∷ []) i = inl (one-left r p i)
-    go (p ∷ (q ∷ Q)) i =
-        inr (lastOf p, headOf q, open-allowed r i (lastOf p) (headOf q) (pair-left i) (pair-right i) (pair-open i))
+    go (p ∷ (q ∷ Q)) i = inr (two-join r i)
 
 -- So one piece is reached, and every piece of the run is that one or its flip.
 record Left (n : ℕ) (w : ℕ → ℕ → ℕ) (js : List Join) : Type 0 where
@@ -182,9 +196,7 @@ module _ {n : ℕ} {w : ℕ → ℕ → ℕ} {js : List Join} (some : 1 ≤ n) (
       go : (Q : List (List ℕ)) → State n js Q → ((x : List ℕ) → Greedy w Q x → Greedy w (singles 0 n) x) → Left n w js
       go [] i g = absurd (omega (arith, state-size i))
       go (p ∷ []) i g = record { piece = p; state = i; greedy = g p done }
-      go (p ∷ (q ∷ Q)) i g =
-          let A = open-allowed r i (lastOf p) (headOf q) (pair-left i) (pair-right i) (pair-open i) in
-          absurd (finished r (j .remains) A)
+      go (p ∷ (q ∷ Q)) i g = absurd (finished r (j .remains) (two-join r i .picked))
 
   module _ (p : List ℕ) (is : IsPiece js p) (f : ℕ) (l : f < 2 * n) (x : In f p) where
     is-left : Arr (left .piece ∷ []) (p ∷ [])

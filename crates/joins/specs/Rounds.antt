@@ -79,22 +79,16 @@ pairs (a ∷ fs) bs = map (join a) bs ++ pairs fs bs
 abbrev pub bestJoin : ℕ → (ℕ → ℕ → ℕ) → List Join → Best
 bestJoin n w js = bestOf (better w) (allowed n js) (pairs (below (2 * n)) (below (2 * n)))
 
--- Rounds: a join and its mirror each, as many as there are kept codes after the first; stuck if none is allowed.
-pub record Layout : Type 0 where
-  pub stuck : Bool
-  pub joins : List Join
-
-abbrev pub layout : Bool → List Join → Layout
-layout s j = record { stuck = s; joins = j }
-
-abbrev pub roundsFrom : ℕ → ℕ → (ℕ → ℕ → ℕ) → List Join → Layout
-roundsFrom zero n w js = layout false js
+-- Rounds: a join and its mirror each, as many as there are kept codes after the first. Some join is allowed as long as two
+-- pieces are left (`AlwaysAllowed`), so no round finds none.
+abbrev pub roundsFrom : ℕ → ℕ → (ℕ → ℕ → ℕ) → List Join → List Join
+roundsFrom zero n w js = js
 roundsFrom (suc f) n w js = elim (bestJoin n w js) [
-  | none ↦ layout true js
+  | none ↦ js
   | best j ↦ roundsFrom f n w (joinBoth (j .left) (j .right) js)
 ]
 
-abbrev pub layoutOf : ℕ → (ℕ → ℕ → ℕ) → Layout
+abbrev pub layoutOf : ℕ → (ℕ → ℕ → ℕ) → List Join
 layoutOf n w = roundsFrom (n - 1) n w []
 
 -- The piece that holds face 0, read from its start: an order of the kept codes, each by one of its faces.
@@ -106,4 +100,4 @@ abbrev pub pieceOf : ℕ → List Join → List ℕ
 pieceOf n js = pieceFrom (2 * n) (startFrom (2 * n) 0 js) js
 
 abbrev pub orderOf : ℕ → (ℕ → ℕ → ℕ) → List ℕ
-orderOf n w = pieceOf n (layoutOf n w .joins)
+orderOf n w = pieceOf n (layoutOf n w)

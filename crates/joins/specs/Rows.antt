@@ -29,7 +29,7 @@ pub record EndsAt (n : ℕ) (after : List ℕ) (f r : ℕ) : Type 0 where
 -- the joining is done: the row has the joins of the layout
 pub record Laid (n : ℕ) (w : ℕ → ℕ → ℕ) (after : List ℕ) : Type 0 where
   pub row : Row n after
-  pub records : Records n after (layoutOf n w .joins)
+  pub records : Records n after (layoutOf n w)
 
 -- a piece is written at the beginning of a row, and has r faces
 pub record Wrote (piece before row : List ℕ) (r : ℕ) : Type 0 where

@@ -10,19 +10,16 @@ use lib.ListN.{length, take, drop, getD}
 use lib.Seq.{take-append-seam}
 use borrow.Author.Tests.{lt-ltb, le-ltb}
 use Rattle.words.specs.Lists.{Each}
-use Rattle.words.specs.Tests.{pick}
 use Rattle.words.specs.Turn.{turned}
 use Rattle.lists.specs.Runs.{codesIn, over}
-use Rattle.lists.specs.Refusals.{whole, falseList, stuck, shortBuffer}
+use Rattle.lists.specs.Refusals.{whole, falseList, shortBuffer}
 use Rattle.lists.specs.Fit.{listOk}
 use Rattle.lists.specs.Outcome.{outcome}
 use Rattle.joins.specs.Rounds.{orderOf}
 use Rattle.joins.specs.Rows.{Wrote}
-use Rattle.joins.proofs.Rounds.{never-stuck}
 use Rattle.joins.proofs.Order.{order-short, order-within}
 use Rattle.greedy.specs.Dropping.{kept}
-use Rattle.greedy.specs.Reading.{shared}
-use Rattle.greedy.specs.Layout.{ribbonFor, savedBy, isStuck, orderFor}
+use Rattle.greedy.specs.Layout.{ribbonFor, orderFor}
 use Rattle.parts.specs.Parts.{partsOf, partShared, InRun}
 use Rattle.spelling.specs.Ribbons.{InOrder, Measures, partRibbon}
 use Rattle.greedy.specs.Answers.{LayOutcome, layOutcome}
@@ -53,7 +50,7 @@ module _ {run starts sizes : List ℕ} {n : ℕ} {p : List ℕ} {bands saved : �
       let t = room false (le-ltb (length buffer) bands l) in
       record { answer = rw (t, orderOutcome) (cc (m .long, m .saves)); left = rw (t, orderOutcome) e }
 
--- the kept codes, laid out in the order that joining gives: no list gets stuck
+-- the kept codes, laid out in the order that joining gives
 module _ (run starts sizes : List ℕ) (n : ℕ) {before after : List ℕ} {r : ℕ}
     (o : Wrote (orderOf n (partShared run starts sizes n)) before after r) where
   abbrev order : List ℕ
@@ -82,15 +79,13 @@ module _ (run starts sizes : List ℕ) (n : ℕ) {before after : List ℕ} {r : 
   pub gives-ordered : (buffer : List ℕ) {left : List ℕ} {x : Laid}
       → Gives (orderOutcome (partsOf run starts sizes n) (take r after) buffer) left x
       → Gives (keptOutcome (partsOf run starts sizes n) buffer) left x
-  unfolding keptOutcome
   gives-ordered buffer g =
       let ks = partsOf run starts sizes n in
-      let t = never-stuck (length ks) (shared turned ks) in
       let p : take r after ≡ orderFor turned ks = rw (parts-length run starts sizes n) taken in
       let q = ap (λ (l : List ℕ). orderOutcome ks l buffer) p in
       record {
-        answer = rw (t, keptOutcome) (g .answer ∙ ap (λ (u : LayOutcome). u .answer) q);
-        left = rw (t, keptOutcome) (g .left ∙ ap (λ (u : LayOutcome). u .after) q);
+        answer = g .answer ∙ ap (λ (u : LayOutcome). u .answer) q;
+        left = g .left ∙ ap (λ (u : LayOutcome). u .after) q;
       }
 
 -- the whole: a false list is refused before anything, and else the outcome is that of the kept codes
@@ -102,31 +97,16 @@ module _ (run ls buffer : List ℕ) where
   short = ltb (length buffer) (length (ribbonFor turned cs))
 
   outcome-false : listOk run ls ≡ false → layOutcome run ls buffer ≡ outcome (a.refused (whole falseList)) buffer
-  outcome-false e = ap (λ (t : Bool). byTests run ls buffer (not t) (isStuck turned cs) short) e
+  outcome-false e = ap (λ (t : Bool). byTests run ls buffer (not t) short) e
 
-  -- the kept codes' outcome by its two tests
-  keptBy : Bool → Bool → LayOutcome
-  keptBy st t = pick st (outcome (a.refused (whole stuck)) buffer)
-      (pick t (outcome (a.refused (whole shortBuffer)) buffer)
-      (outcome (a.laid (length (ribbonFor turned cs)) (savedBy turned cs)) (over (ribbonFor turned cs) buffer)))
-
-  kept-by : (st t : Bool) → isStuck turned cs ≡ st → short ≡ t → keptOutcome (kept turned cs) buffer ≡ keptBy st t
-  unfolding keptOutcome orderOutcome keptBy
-  kept-by true t e f = rw (e, keptOutcome)
-  kept-by false true e f = rw (e, f, keptOutcome, orderOutcome)
-  kept-by false false e f = rw (e, f, keptOutcome, orderOutcome)
-
-  by-kept : (st t : Bool) → byTests run ls buffer false st t ≡ keptBy st t
-  unfolding keptBy
-  by-kept true t = refl
-  by-kept false true = refl
-  by-kept false false = refl
+  -- the kept codes' outcome by its test
+  kept-by : (t : Bool) → short ≡ t → keptOutcome (kept turned cs) buffer ≡ byTests run ls buffer false t
+  unfolding orderOutcome
+  kept-by true e = rw (e, orderOutcome)
+  kept-by false e = rw (e, orderOutcome)
 
   outcome-kept : listOk run ls ≡ true → layOutcome run ls buffer ≡ keptOutcome (kept turned cs) buffer
-  outcome-kept e =
-      ap (λ (t : Bool). byTests run ls buffer (not t) (isStuck turned cs) short) e
-      ∙ by-kept (isStuck turned cs) short
-      ∙ sym (kept-by (isStuck turned cs) short refl refl)
+  outcome-kept e = ap (λ (t : Bool). byTests run ls buffer (not t) short) e ∙ sym (kept-by short refl)
 
   pub gives-false : {r : Laid} → listOk run ls ≡ false → answerOf r ≡ a.refused (whole falseList)
       → Gives (layOutcome run ls buffer) buffer r

@@ -6,12 +6,11 @@ use Prim.Native.Nat.{ℕ}
 use lib.Dec.{ltb}
 use lib.ListN.{length}
 use Rattle.words.specs.Turn.{turned}
-use Rattle.lists.specs.Refusals.{whole, stuck, shortBuffer}
+use Rattle.lists.specs.Refusals.{whole, shortBuffer}
 use Rattle.lists.specs.Answers.{refusalOf}
 use Rattle.lists.specs.Outcome.{outcome}
 use Rattle.lists.specs.Runs.{over}
-use Rattle.joins.specs.Rounds.{layoutOf}
-use Rattle.greedy.specs.Reading.{shared, readPiece, savedAlong}
+use Rattle.greedy.specs.Reading.{readPiece, savedAlong}
 use Rattle.greedy.specs.Layout.{orderFor}
 use Rattle.greedy.specs.Answers.{LayAnswer, refused, laid, LayOutcome, LaysInto, layOutcome, Means}
 use Rattle.layout.specs.declared.Laid.{Laid}
@@ -25,11 +24,8 @@ orderOutcome ks p buffer = elim (ltb (length buffer) (length (readPiece turned k
   | false ↦ outcome (laid (length (readPiece turned ks p)) (savedAlong turned ks p)) (over (readPiece turned ks p) buffer)
 ]
 
-unfoldable pub keptOutcome : List (List ℕ) → List ℕ → LayOutcome
-keptOutcome ks buffer = elim (layoutOf (length ks) (shared turned ks) .stuck) [
-  | true ↦ outcome (refused (whole stuck)) buffer
-  | false ↦ orderOutcome ks (orderFor turned ks) buffer
-]
+abbrev pub keptOutcome : List (List ℕ) → List ℕ → LayOutcome
+keptOutcome ks buffer = orderOutcome ks (orderFor turned ks) buffer
 
 -- The answer of a routine: document 01's number and row, or the values, for each case.
 abbrev pub answerOf : Laid → LayAnswer

@@ -13,7 +13,7 @@ use parts::keep;
 use spelling::measure;
 use spelling::write_bands;
 
-// A ribbon's length and what it saves; or the refusal, 12, 14 or 13.
+// A ribbon's length and what it saves; or the refusal, 12 or 13.
 pub enum Laid {
     Refused(Refusal),
     Ribbon { bands: u32, saved: u32 },
@@ -66,8 +66,7 @@ fn lay_kept(bands: &[u8], starts: &[usize], sizes: &[usize], n: usize, ribbon: &
 }
 
 // Lays out a list of codes, one run of bands and a length for each, into a lent ribbon. It answers with the ribbon's length
-// and what is saved. It refuses a false list by 12, and a ribbon that is too short by 13; then nothing lent is touched. 14 is
-// never due.
+// and what is saved. It refuses a false list by 12, and a ribbon that is too short by 13; then nothing lent is touched.
 pub fn lay_ribbon(bands: &[u8], lengths: &[u16], ribbon: &mut [u8]) -> Laid
     ensures { λ r. ⌜ LaysRibbon (now (bands .entry)) (now (lengths .entry)) (now (ribbon .entry)) (now (ribbon .exit)) r ⌝ }
 {

@@ -1,4 +1,4 @@
--- Document 01's table of refusals: the number of each by its word; 0 is none.
+-- Document 01's table of refusals: the number of each by its word; 0 is none. 14 is retired (M-112) and not to be used again.
 use mathlib.Core.Bool.{Bool, true, false}
 use Prim.Native.Nat.{ℕ, zero, suc}
 
@@ -42,9 +42,6 @@ falseList = 12
 
 abbrev pub shortBuffer : ℕ
 shortBuffer = 13
-
-abbrev pub stuck : ℕ
-stuck = 14
 
 abbrev pub longRibbon : ℕ
 longRibbon = 15

@@ -19,7 +19,6 @@ pub use numbers::LONG_RIBBON;
 pub use numbers::NAME_TAKEN;
 pub use numbers::NO_BANDS;
 pub use numbers::SHORT_BUFFER;
-pub use numbers::STUCK;
 pub use numbers::UNKNOWN_COLOUR;
 pub use numbers::WRONG_HEADING;
 pub use numbers::WRONG_WIDTH;

@@ -1,5 +1,5 @@
-// The numbers of refusals, by document 01's words. All calls answer with these, so that a wrong one breaks their proofs; 14 is
-// never answered.
+// The numbers of refusals, by document 01's words. All calls answer with these, so that a wrong one breaks their proofs. 14 is
+// retired (M-112): no call answers it, and it is not to be used again.
 
 // More than 16,384 bytes in an order list.
 pub const LONG_FILE: u8 = 1;
@@ -39,9 +39,6 @@ pub const FALSE_LIST: u8 = 12;
 
 // A lent result buffer is shorter than the result.
 pub const SHORT_BUFFER: u8 = 13;
-
-// Several pieces remain and no join is allowed. No list is refused so.
-pub const STUCK: u8 = 14;
 
 // More than 16,384 bands in a supplied ribbon.
 pub const LONG_RIBBON: u8 = 15;

@@ -24,7 +24,7 @@ fn fill(all: [Place; MOST_CODES], due: usize, places: &mut [Place])
 // puts a record of each code's place, in list order, at the beginning of those that are lent; or missing, with the lowest
 // number of a code that stands on the ribbon neither way. It refuses a false list by 12, a ribbon of over 16,384 bands by 15,
 // one with another byte than A to Z by 8, and too few records by 13, the last only where it would answer held. Where it does
-// not answer held, nothing lent is touched. 14 is never due.
+// not answer held, nothing lent is touched.
 pub fn check_ribbon(bands: &[u8], lengths: &[u16], ribbon: &[u8], places: &mut [Place]) -> Checked
     ensures { λ r. ⌜ ChecksRibbon (now (bands .entry)) (now (lengths .entry)) (now (ribbon .entry)) (now (places .entry)) (now (places .exit)) r ⌝ }
 {

@@ -1,5 +1,5 @@
--- The line of a check is the line of its answer: a fit list is not refused, none gets stuck, and there is room for all of
--- its records. So each answer that is left is one for which the program's claim has the line.
+-- The line of a check is the line of its answer: a fit list is not refused, and there is room for all of its records. So each
+-- answer that is left is one for which the program's claim has the line.
 use mathlib.Core.Path.{_≡_, sym, ap, subst, _∙_}
 use mathlib.Core.Bool.{true}
 use mathlib.Core.List.{List, []}
@@ -16,9 +16,8 @@ use Rattle.lists.specs.Runs.{codesIn, over}
 use Rattle.lists.specs.Fit.{listOk}
 use Rattle.lists.proofs.Rules.{codes-checked, is-fit-list}
 use Rattle.grammar.specs.RibbonFile.{ribbonOf}
-use Rattle.greedy.proofs.Laying.{never-stuck-rule}
 use Rattle.checking.specs.Answers.{CheckAnswer, refused, missing-code, held, PlaceRecord, CheckOutcome, ChecksInto}
-use Rattle.checking.specs.Answers.{false-list, long-ribbon, no-colour, no-join, no-place, short-buffer, filled}
+use Rattle.checking.specs.Answers.{false-list, long-ribbon, no-colour, no-place, short-buffer, filled}
 use Rattle.places.specs.Calls.{recordOf}
 use Rattle.verdicts.specs.Calls.{answerOf, ChecksAlone}
 use Rattle.places.specs.declared.Place as declared
@@ -47,7 +46,6 @@ module _ (run ls row : List ℕ) (ok : listOk run ls ≡ true) where
   line-of room (false-list f) = absurd (holds (codes-checked run ls) ok f)
   line-of room (long-ribbon fit l) = p.long-ribbon l (line-ours longRibbon 0)
   line-of room (no-colour fit l b) = p.no-colour l b (line-ours unknownColour 0)
-  line-of room (no-join fit s) = absurd (never-stuck-rule s)
   line-of room (no-place {k} fit m) = p.missing-line (fit .long) (fit .bands) m (digits-ours k)
   line-of room (short-buffer fit a l) = absurd (omega (arith, holds (is-fit-list run ls) ok .at-most))
   line-of room (filled {d = d} rs fit a l x y z) = p.held-line (fit .long) (fit .bands) a x y (signed-ours d)

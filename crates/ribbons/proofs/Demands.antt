@@ -14,10 +14,11 @@ use Rattle.grammar.proofs.Answers.{serves-ours, serves-only}
 use Rattle.grammar.proofs.HandsOn.{hands-on}
 use Rattle.grammar.proofs.Quoting.{writes-ours, writes-only}
 use Rattle.grammar.proofs.RibbonFile.{takes-ours, takes-only}
+use Rattle.joins.proofs.Ends.{always-allowed, always-end}
 use Rattle.joins.proofs.Claims.{joiner-ours, joiner-only}
 use Rattle.greedy.specs.Answers.{laid, LaysInto, layOutcome}
 use Rattle.greedy.proofs.Dropping.{keeper-ours, keeper-only}
-use Rattle.greedy.proofs.Laying.{lays-twice, never-stuck-rule}
+use Rattle.greedy.proofs.Laying.{lays-twice}
 use Rattle.greedy.proofs.Claims.{lays-ours, lays-only, each-laid, starred-lay}
 use Rattle.greedy.proofs.Answers.{lays-out-ours, lays-out-only, laid-means}
 use Rattle.layout.proofs.Calls.{demand-3-of-call}
@@ -29,6 +30,7 @@ use Rattle.checking.proofs.Check.{misses-ours, misses-only}
 use Rattle.checking.proofs.Answers.{checks-ours, checks-only}
 use Rattle.programs.proofs.Prints.{ribbon-program-ours, ribbon-program-only, sheet-program-ours, sheet-program-only}
 use Rattle.programs.proofs.Prints.{check-program-ours, check-program-only}
+use Rattle.numbers.proofs.Numbers.{numbers}
 use Rattle.ribbons.proofs.OfCalls.{passes-exactly, sheet-is-true}
 use Rattle.ribbons.specs.Demands.{Pinned, NoFreedom, Demand3, Demands}
 
@@ -97,7 +99,9 @@ all-demands =
       accepted = λ run ls buffer ok room. accepts run ls buffer ok (omega (arith, ribbon-at-most run ls ok));
       accepted-sheet = λ run ls name-run name-ls buffer ok named room.
           sheet-accepts run ls name-run name-ls ok named buffer room;
-      never-stuck = λ cs x. never-stuck-rule x;
+      always-allowed = always-allowed;
+      rounds-end = always-end;
+      numbers = numbers;
       hands-on = hands-on;
       all-stand = λ cs. each-laid turned turning cs .all-stand;
       adds-up = λ cs. each-laid turned turning cs .adds-up;

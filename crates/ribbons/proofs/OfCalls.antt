@@ -18,13 +18,13 @@ use Rattle.lists.proofs.Rules.{codes-checked, names-checked, is-fit-list, is-fi
 use Rattle.joins.specs.Rules.{Chosen}
 use Rattle.greedy.specs.Rules.{Lays, AllStand}
 use Rattle.greedy.proofs.Claims.{chosen-largest}
-use Rattle.greedy.proofs.Laying.{lays-twice, never-stuck-rule}
+use Rattle.greedy.proofs.Laying.{lays-twice}
 use Rattle.sheets.specs.Answers.{SheetAnswer, SheetOutcome, written, SheetsInto}
 use Rattle.sheets.specs.Answers as sheet
 use Rattle.sheets.proofs.ReadBack.{reads-back}
 use Rattle.checking.specs.Check.{Missing, none-missing, missing, all-held}
 use Rattle.checking.specs.Answers.{CheckAnswer, CheckOutcome, refused, missing-code, held, Fit, ChecksInto}
-use Rattle.checking.specs.Answers.{false-list, long-ribbon, no-colour, no-join, no-place, short-buffer, filled}
+use Rattle.checking.specs.Answers.{false-list, long-ribbon, no-colour, no-place, short-buffer, filled}
 use Rattle.places.specs.Calls.{recordOf, recordsOf}
 use Rattle.verdicts.specs.Calls.{ChecksRibbon}
 use Rattle.places.specs.declared.Place as declared
@@ -49,7 +49,6 @@ module _ (run ls row : List ℕ) (before after : List declared.Place) where
   held-stands (false-list f) e = absurd (omega arith)
   held-stands (long-ribbon f l) e = absurd (omega arith)
   held-stands (no-colour f l b) e = absurd (omega arith)
-  held-stands (no-join f s) e = absurd (omega arith)
   held-stands (no-place f m) e = absurd (omega arith)
   held-stands (short-buffer f a l) e = absurd (omega arith)
   held-stands (filled rs f a l x y z) e = a
@@ -59,7 +58,6 @@ module _ (run ls row : List ℕ) (before after : List declared.Place) where
   missing-stands-not (false-list f) e a = omega arith
   missing-stands-not (long-ribbon f l) e a = omega arith
   missing-stands-not (no-colour f l b) e a = omega arith
-  missing-stands-not (no-join f s) e a = omega arith
   missing-stands-not (no-place f m) e a = omega (arith, ap is-one (missing-one (all-held a) m))
   missing-stands-not (short-buffer f b l) e a = omega arith
   missing-stands-not (filled rs f b l x y z) e a = omega arith
@@ -69,7 +67,6 @@ module _ (run ls row : List ℕ) (before after : List declared.Place) where
   not-refused (false-list f) e fit a room = fit .list f
   not-refused (long-ribbon f l) e fit a room = omega (arith, fit .long)
   not-refused (no-colour f l b) e fit a room = b (fit .bands)
-  not-refused (no-join f s) e fit a room = never-stuck-rule s
   not-refused (no-place f m) e fit a room = omega arith
   not-refused (short-buffer f b l) e fit a room = omega (arith, length-map before recordOf)
   not-refused (filled rs f b l x y z) e fit a room = omega arith
@@ -104,7 +101,6 @@ module _ (run ls name-run name-ls before after : List ℕ) (bytes saved : ℕ) w
   sheet-is : {o : SheetOutcome} → SheetsInto run ls name-run name-ls before o → bytesIn (o .answer) ≡ suc bytes
       → savedIn (o .answer) ≡ saved → after ≡ o .after → Is
   sheet-is (sheet.false-list f) b s a = absurd (omega arith)
-  sheet-is (sheet.no-join f x) b s a = absurd (omega arith)
   sheet-is (sheet.short-buffer f x l) b s a = absurd (omega arith)
   sheet-is (sheet.filled {ribbon} {sheet = t} f x l) b s a =
       let C = holds (is-fit-list run ls) (passes (codes-checked run ls) (λ h. f (inl h))) in

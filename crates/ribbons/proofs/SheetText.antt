@@ -6,12 +6,9 @@ use Prim.Native.Nat.{ℕ, _≤_}
 use native.Mathlib.Omega.{arith}
 use lib.ListN.{length}
 use borrow.Author.Tests.{le-ltb}
-use Rattle.words.specs.Turn.{turned}
-use Rattle.words.proofs.Turning.{turning}
-use Rattle.lists.specs.Runs.{codesIn, over}
+use Rattle.lists.specs.Runs.{over}
 use Rattle.lists.specs.Fit.{listOk, namesOk}
 use Rattle.lists.specs.declared.Refusal as declared
-use Rattle.greedy.proofs.Claims.{each-laid}
 use Rattle.sheets.specs.Answers.{sheetFor, sheetOutcome}
 use Rattle.sheets.proofs.Room.{sheet-at-most, accepts}
 use Rattle.writer.specs.Calls.{WritesSheet}
@@ -27,9 +24,8 @@ module _ (run ls name-run name-ls before : List ℕ) {after : List ℕ} {r : Wro
 
   left-is : after ≡ over sheet before
   left-is =
-      let e = each-laid turned turning (codesIn run ls) .never-found-stuck in
       let l = le-ltb (length before) (length sheet) (omega (arith, sheet-at-most run ls name-run name-ls ok named)) in
-      p .left ∙ rw (sheetOutcome, ok, named, e, l)
+      p .left ∙ rw (sheetOutcome, ok, named, l)
 
   told : {x : Wrote} → r ≡ x → WritesSheet run ls name-run name-ls before after x
   told e = subst (WritesSheet run ls name-run name-ls before after) e p

@@ -23,9 +23,10 @@ use Rattle.grammar.specs.Quoting.{Writes, fieldText}
 use Rattle.grammar.specs.RibbonFile.{Takes, ribbonOf}
 use Rattle.joins.specs.Faces.{Join}
 use Rattle.joins.specs.Rules.{Chosen, Largest, Joiner}
+use Rattle.joins.specs.Ends.{AlwaysAllowed, AlwaysEnd}
 use Rattle.joins.specs.Rounds.{layoutOf}
 use Rattle.greedy.specs.Dropping.{Keeper, kept}
-use Rattle.greedy.specs.Rules.{Lays, Stuck, AllStand, AtMostTwice}
+use Rattle.greedy.specs.Rules.{Lays, AllStand, AtMostTwice}
 use Rattle.greedy.specs.Layout.{ribbonFor, savedBy}
 use Rattle.greedy.specs.Answers.{LayOutcome, laid, LaysOut, layOutcome}
 use Rattle.greedy.specs.Starred.{Starred}
@@ -45,6 +46,7 @@ use Rattle.verdicts.specs.declared.Checked.{Checked}
 use Rattle.verdicts.specs.declared.Checked.the-variants.{Missing, Held}
 use Rattle.programs.specs.Programs.{ribbonOutput, sheetOutput, checkOutput}
 use Rattle.programs.specs.Prints.{RibbonProgram, SheetProgram, CheckProgram}
+use Rattle.numbers.specs.Numbers.{Numbers}
 
 -- Each definition meets the claim that pins it.
 pub record Pinned : Type 0 where
@@ -56,7 +58,7 @@ pub record Pinned : Type 0 where
   pub files : Meets readOrders
   pub ribbon-files : Takes ribbonOf
   pub dropping : Keeper (StandsSomeWay turned) (kept turned)
-  pub joining : Joiner (λ n w. layoutOf n w .joins)
+  pub joining : Joiner layoutOf
   pub ribbons : (cs : List (List ℕ)) → Lays Chosen turned cs (ribbonFor turned cs) (savedBy turned cs)
   pub searching : Misses turned (missingOn turned)
   pub reading : Serves readOutcome
@@ -83,7 +85,7 @@ pub record NoFreedom : Type 0 where
   pub dropping : (keep : List (List ℕ) → List (List ℕ)) → Keeper (StandsSomeWay turned) keep → (cs : List (List ℕ))
       → keep cs ≡ kept turned cs
   pub joining : (make : ℕ → (ℕ → ℕ → ℕ) → List Join) → Joiner make → (n : ℕ) (w : ℕ → ℕ → ℕ)
-      → make n w ≡ layoutOf n w .joins
+      → make n w ≡ layoutOf n w
   pub ribbons : (cs : List (List ℕ)) (ribbon : List ℕ) (saved : ℕ) → Lays Chosen turned cs ribbon saved
       → (ribbon ≡ ribbonFor turned cs) × (saved ≡ savedBy turned cs)
   pub searching : (search : List (List ℕ) → List ℕ → check.Missing) → Misses turned search → (cs : List (List ℕ)) (row : List ℕ)
@@ -151,8 +153,9 @@ SheetIsTrue =
 
 pub record Demands : Type 0 where
   -- 1. Nothing unfit is accepted, and what is refused leaves lent memory untouched: `reading`, `laying`, `checking` and
-  -- `sheets` of the records above. A fit list is accepted, into a buffer of 8,192 bytes, its sheet into one of 16,534; none
-  -- gets stuck; what reading hands on is fit.
+  -- `sheets` of the records above. A fit list is accepted, into a buffer of 8,192 bytes, its sheet into one of 16,534.
+  -- While several pieces remain some join is allowed, so that rounds end. No call answers by another number than those of
+  -- its list, and no program writes one; 14 is in none. What reading hands on is fit.
   pub pinned : Pinned
   pub no-freedom : NoFreedom
   pub accepted : (run ls buffer : List ℕ) → listOk run ls ≡ true → 8192 ≤ length buffer
@@ -162,7 +165,9 @@ pub record Demands : Type 0 where
       → namesOk (length ls) name-run name-ls ≡ true → 16534 ≤ length buffer
       → sheetOutcome run ls name-run name-ls buffer .answer
       ≡ written (length (sheetFor run ls name-run name-ls)) (savedBy turned (codesIn run ls))
-  pub never-stuck : (cs : List (List ℕ)) → Stuck turned cs → ⊥
+  pub always-allowed : AlwaysAllowed
+  pub rounds-end : AlwaysEnd
+  pub numbers : Numbers
   pub hands-on : Hands-on
   -- 2. The ribbon is the one of Greedy-R2 with our tie rule: `ribbons` above. Every listed code stands on it one way or the
   -- other; its bands and the bands saved add up to those of the kept codes. A supplied ribbon passes exactly when every

@@ -34,7 +34,6 @@ pub use lists::NAME_TAKEN;
 pub use lists::NO_BANDS;
 pub use lists::Refusal;
 pub use lists::SHORT_BUFFER;
-pub use lists::STUCK;
 pub use lists::UNKNOWN_COLOUR;
 pub use lists::WRONG_HEADING;
 pub use lists::WRONG_WIDTH;

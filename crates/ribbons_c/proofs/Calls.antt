@@ -43,7 +43,7 @@ module _ {A B : Type 0} {meets : A → Type 0} {plain : A → B} {readAs : B →
       let z = ap readAs t ∙ kept y (subst meets e m) in
       record { meant = subst meets (e ∙ sym z) m; plainly = t ∙ sym (ap plain z) }
 
-by-number : {A : Type 0} (n : ℕ) (given refused : A) → 0 < n → byNumber n given refused ≡ refused
+pub by-number : {A : Type 0} (n : ℕ) (given refused : A) → 0 < n → byNumber n given refused ≡ refused
 by-number zero given refused p = absurd (omega arith)
 by-number (suc n) given refused p = refl
 
@@ -71,7 +71,6 @@ WholeLay (lays.laid bands saved) = Unit {0}
 
 whole-lay : {run ls before : List ℕ} {o : LayOutcome} → LaysInto run ls before o → WholeLay (o .answer)
 whole-lay (lays.false-list f) = (omega arith, refl)
-whole-lay (lays.no-join f s) = (omega arith, refl)
 whole-lay (lays.short-buffer f l s) = (omega arith, refl)
 whole-lay (lays.filled f l s) = tt
 
@@ -96,7 +95,6 @@ whole-check : {run ls row : List ℕ} {records : List PlaceRecord} {o : CheckOut
 whole-check (checks.false-list f) = (omega arith, refl)
 whole-check (checks.long-ribbon f l) = (omega arith, refl)
 whole-check (checks.no-colour f l b) = (omega arith, refl)
-whole-check (checks.no-join f s) = (omega arith, refl)
 whole-check (checks.no-place f m) = tt
 whole-check (checks.short-buffer f a s) = (omega arith, refl)
 whole-check (checks.filled rs f a l o d r) = tt
@@ -129,7 +127,6 @@ WholeSheet (sheets.written bytes saved) = Unit {0}
 whole-sheet : {run ls name-run name-ls before : List ℕ} {o : SheetOutcome} → SheetsInto run ls name-run name-ls before o
     → WholeSheet (o .answer)
 whole-sheet (sheets.false-list f) = (omega arith, refl)
-whole-sheet (sheets.no-join f s) = (omega arith, refl)
 whole-sheet (sheets.short-buffer f s l) = (omega arith, refl)
 whole-sheet (sheets.filled f s l) = tt
 

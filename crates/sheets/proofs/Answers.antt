@@ -1,5 +1,5 @@
--- The claim on a call that writes a sheet: ours meets it and nothing else does. Ours goes by three tests, each of which
--- decides what the claim asks, and no list gets stuck.
+-- The claim on a call that writes a sheet: ours meets it and nothing else does. Ours goes by two tests, each of which
+-- decides what the claim asks.
 use mathlib.Core.Path.{_≡_, refl, sym, ap, ap₂, subst, _∙_}
 use mathlib.Core.Logic.{inr}
 use mathlib.Core.Bool.{Bool, true, false, not, _&&_, _||_}
@@ -11,22 +11,20 @@ use lib.ListN.{length}
 use Rattle.words.specs.Turn.{turned}
 use Rattle.words.specs.Lists.{Each}
 use Rattle.words.specs.Decides.{Decides, yes, no}
-use Rattle.words.proofs.Turning.{turning}
 use Rattle.words.proofs.Lists.{each-map}
 use Rattle.words.proofs.Deciding.{passes, refuses, holds, decides-or, is-lt, not-lt}
-use Rattle.lists.specs.Refusals.{whole, falseList, stuck, shortBuffer, when, firstOf}
+use Rattle.lists.specs.Refusals.{whole, falseList, shortBuffer, when, firstOf}
 use Rattle.lists.specs.Outcome.{outcome}
 use Rattle.lists.specs.Runs.{codesIn, over}
 use Rattle.lists.specs.Rules.{Printed, NameRule, FitNames}
 use Rattle.lists.specs.Fit.{listOk, namesOk}
 use Rattle.lists.proofs.Rules.{is-false-codes, is-false-names, names-checked, is-fit-names}
 use Rattle.greedy.specs.Layout.{ribbonFor, savedBy}
-use Rattle.greedy.proofs.Laying.{never-stuck-rule}
-use Rattle.greedy.proofs.Claims.{lays-ours, lays-only, each-laid}
+use Rattle.greedy.proofs.Claims.{lays-ours, lays-only}
 use Rattle.lists.proofs.Runs.{codes-count}
 use Rattle.sheets.specs.Sheet.{SheetFor}
 use Rattle.sheets.specs.Answers.{SheetOutcome, refused, written, FalseList, Sheeted, SheetsInto, false-list}
-use Rattle.sheets.specs.Answers.{no-join, short-buffer, filled, Sheets, sheetFor, sheetOutcome}
+use Rattle.sheets.specs.Answers.{short-buffer, filled, Sheets, sheetFor, sheetOutcome}
 use Rattle.sheets.proofs.Sheet.{sheet-ours, sheet-only}
 
 not-and : (a b : Bool) → not (a && b) ≡ (not a || not b)
@@ -74,38 +72,31 @@ module _ (run ls name-run name-ls : List ℕ) where
       (sheet-only (subst (λ (r : List ℕ). SheetFor names cs r t) (e .0) (x .shows)), e .1)
 
   module _ (buffer : List ℕ) where
-    -- ours by its tests: of the list with its names, of being stuck, and of the buffer
-    abbrev pub byTests : Bool → Bool → Bool → SheetOutcome
-    byTests false-one st short =
-        let f = firstOf (when false-one falseList) (firstOf (when st stuck) (when short shortBuffer)) in
+    -- ours by its tests: of the list with its names, and of the buffer
+    abbrev pub byTests : Bool → Bool → SheetOutcome
+    byTests false-one short =
+        let f = firstOf (when false-one falseList) (when short shortBuffer) in
         elim (eqb f 0) [
           | true ↦ outcome (written (length sheet) (savedBy turned cs)) (over sheet buffer)
           | false ↦ outcome (refused (whole f)) buffer
         ]
 
-    -- no list gets stuck
-    as-tested : sheetOutcome run ls name-run name-ls buffer ≡ byTests bad false (ltb (length buffer) (length sheet))
-    as-tested =
-        ap (λ (st : Bool). byTests bad st (ltb (length buffer) (length sheet)))
-        (each-laid turned turning cs .never-found-stuck)
-
     -- Ours meets it.
     meets : {b short : Bool} → Decides (FalseList run ls name-run name-ls) b
         → Decides (length buffer < length sheet) short
-        → SheetsInto run ls name-run name-ls buffer (byTests b false short)
+        → SheetsInto run ls name-run name-ls buffer (byTests b short)
     meets (yes f) d = false-list f
     meets (no fit) (yes l) = short-buffer fit (sheeted-ours fit) l
     meets (no fit) (no l) = filled fit (sheeted-ours fit) (not-lt l)
 
     -- Nothing else does: each case is the one of ours.
     pub if-tests : {b short : Bool} → bad ≡ b → ltb (length buffer) (length sheet) ≡ short
-        → sheetOutcome run ls name-run name-ls buffer ≡ byTests b false short
-    if-tests p q = as-tested ∙ ap₂ (λ (b s : Bool). byTests b false s) p q
+        → sheetOutcome run ls name-run name-ls buffer ≡ byTests b short
+    if-tests p q = ap₂ (λ (b s : Bool). byTests b s) p q
 
     into-only : {o : SheetOutcome} → SheetsInto run ls name-run name-ls buffer o
         → o ≡ sheetOutcome run ls name-run name-ls buffer
     into-only (false-list f) = sym (if-tests (passes is-false-list f) refl)
-    into-only (no-join fit s) = absurd (never-stuck-rule s)
     into-only (short-buffer fit x l) =
         let e = ap length (sheeted-only x .0) in
         let short = passes (is-lt (length buffer) (length sheet)) (omega arith) in
@@ -119,8 +110,7 @@ module _ (run ls name-run name-ls : List ℕ) where
 pub sheets-ours : Sheets sheetOutcome
 sheets-ours run ls name-run name-ls buffer =
     let enough = is-lt (length buffer) (length (sheetFor run ls name-run name-ls)) in
-    subst (SheetsInto run ls name-run name-ls buffer) (sym (as-tested run ls name-run name-ls buffer))
-    (meets run ls name-run name-ls buffer (is-false-list run ls name-run name-ls) enough)
+    meets run ls name-run name-ls buffer (is-false-list run ls name-run name-ls) enough
 
 pub sheets-only : (call : List ℕ → List ℕ → List ℕ → List ℕ → List ℕ → SheetOutcome) → Sheets call
     → (run ls name-run name-ls buffer : List ℕ)

@@ -11,14 +11,14 @@ use Rattle.words.specs.Turn.{turned}
 use Rattle.words.specs.Texts.{text}
 use Rattle.words.specs.Place.{Place, given-at, turned-at, nowhere, placeOf}
 use Rattle.words.proofs.Tests.{differ}
-use Rattle.lists.specs.Refusals.{whole, falseList, stuck, shortBuffer, when, firstOf}
+use Rattle.lists.specs.Refusals.{whole, falseList, shortBuffer, when, firstOf}
 use Rattle.lists.specs.Outcome.{outcome}
 use Rattle.lists.specs.Runs.{codesIn, flat, lengths, over}
 use Rattle.lists.specs.Fit.{isIn, listOk, namesOk}
 use Rattle.grammar.specs.Quoting.{fieldText}
 use Rattle.grammar.proofs.Quoting.{undoubled}
 use Rattle.greedy.specs.Dropping.{kept}
-use Rattle.greedy.specs.Layout.{ribbonFor, savedBy, isStuck}
+use Rattle.greedy.specs.Layout.{ribbonFor, savedBy}
 use Rattle.sheets.specs.Decimal.{decimal}
 use Rattle.sheets.specs.Sheet.{rowText, sheetHeading, bandsAt, placeFields, codeRows, sheetText}
 use Rattle.sheets.specs.Answers.{SheetAnswer, SheetOutcome, refused, written, Sheets, sheetFor, sheetOutcome}
@@ -52,7 +52,7 @@ callBy ok write run ls name-run name-ls buffer =
     let cs = codesIn run ls in
     let sheet = write (codesIn name-run name-ls) cs in
     let f = firstOf (when (not (ok run ls name-run name-ls)) falseList)
-    (firstOf (when (isStuck turned cs) stuck) (when (ltb (length buffer) (length sheet)) shortBuffer)) in
+    (when (ltb (length buffer) (length sheet)) shortBuffer) in
     elim (eqb f 0) [
       | true ↦ outcome (written (length sheet) (savedBy turned cs)) (over sheet buffer)
       | false ↦ outcome (refused (whole f)) buffer
@@ -212,7 +212,8 @@ pub not-as-listed : Sheets asListed → ⊥
 unfolding turned zip zipWith
 not-as-listed = caught asListed two (text "AB" ∷ text "BA" ∷ []) room refl
 
--- The list: names not checked, on a name used twice; every list turned away; every list stuck.
+-- The list: names not checked, on a name used twice; every list turned away; the retired number, 14, where several codes share
+-- nothing, as if no join of overlap 0 were allowed, on A and B.
 abbrev unchecked : Call
 unchecked = callBy (λ run ls name-run name-ls. listOk run ls) sheetText
 
@@ -227,12 +228,16 @@ pub not-all-turned-away : Sheets allTurnedAway → ⊥
 unfolding turned
 not-all-turned-away = caught allTurnedAway (text "P" ∷ []) (text "AB" ∷ []) room refl
 
-abbrev stuckAtOnce : Call
-stuckAtOnce run ls name-run name-ls buffer = outcome (refused (whole stuck)) buffer
+abbrev retiredNumber : Call
+retiredNumber run ls name-run name-ls buffer =
+    pick
+    (ltb 1 (length ls) && eqb (savedBy turned (codesIn run ls)) 0)
+    (outcome (refused (whole 14)) buffer)
+    (sheetOutcome run ls name-run name-ls buffer)
 
-pub not-stuck-at-once : Sheets stuckAtOnce → ⊥
+pub not-retired-number : Sheets retiredNumber → ⊥
 unfolding turned
-not-stuck-at-once = caught stuckAtOnce (text "P" ∷ []) (text "AB" ∷ []) room refl
+not-retired-number = caught retiredNumber two (text "A" ∷ text "B" ∷ []) room refl
 
 -- The order of refusals: 13 before 12, on a name used twice and no room.
 abbrev shortFirst : Call

@@ -21,7 +21,6 @@ use Rattle.grammar.specs.Files.{quote}
 use Rattle.grammar.specs.Grammar.{Inside, nothing, byte, doubled}
 use Rattle.grammar.specs.Quoting.{Written, as-it-is, in-quotes}
 use Rattle.greedy.specs.Layout.{savedBy}
-use Rattle.greedy.proofs.Claims.{each-laid}
 use Rattle.lists.proofs.Runs.{codes-count}
 use Rattle.greedy.proofs.Room.{ribbon-at-most}
 use Rattle.sheets.specs.Decimal.{Digits, one-digit, one-more}
@@ -90,6 +89,5 @@ module _ (run ls name-run name-ls : List ℕ) (ok : listOk run ls ≡ true)
       → sheetOutcome run ls name-run name-ls buffer .answer
       ≡ written (length (sheetFor run ls name-run name-ls)) (savedBy turned (codesIn run ls))
   accepts buffer room =
-      let e = each-laid turned turning (codesIn run ls) .never-found-stuck in
       let l = le-ltb (length buffer) (length (sheetFor run ls name-run name-ls)) (omega (arith, sheet-at-most)) in
-      rw (sheetOutcome, ok, names-ok, e, l)
+      rw (sheetOutcome, ok, names-ok, l)

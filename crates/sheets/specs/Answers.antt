@@ -6,14 +6,14 @@ use Prim.Native.Nat.{ℕ, _≤_, _<_}
 use lib.Dec.{eqb, ltb}
 use lib.ListN.{length}
 use Rattle.words.specs.Turn.{turned}
-use Rattle.lists.specs.Refusals.{Refusal, whole, falseList, stuck, shortBuffer, when, firstOf}
+use Rattle.lists.specs.Refusals.{Refusal, whole, falseList, shortBuffer, when, firstOf}
 use Rattle.lists.specs.Outcome.{Outcome, outcome}
 use Rattle.lists.specs.Runs.{codesIn, over}
 use Rattle.lists.specs.Rules.{FalseCodes, FalseNames}
 use Rattle.lists.specs.Fit.{listOk, namesOk}
 use Rattle.joins.specs.Rules.{Chosen}
-use Rattle.greedy.specs.Rules.{Lays, Stuck}
-use Rattle.greedy.specs.Layout.{savedBy, isStuck}
+use Rattle.greedy.specs.Rules.{Lays}
+use Rattle.greedy.specs.Layout.{savedBy}
 use Rattle.sheets.specs.Sheet.{SheetFor, sheetText}
 
 -- refused; or written with the sheet's length and what the ribbon saves
@@ -24,8 +24,8 @@ pub data SheetAnswer : Type 0 where
 abbrev pub SheetOutcome : Type 0
 SheetOutcome = Outcome SheetAnswer (List ℕ)
 
--- The claim on a call: 12 for codes or names, then 14, then 13, each under its condition and all with row 0; a refused
--- call changes no lent byte, and on success the buffer past the sheet keeps what it had.
+-- The claim on a call: 12 for codes or names, then 13, each under its condition and both with row 0; a refused call changes
+-- no lent byte, and on success the buffer past the sheet keeps what it had.
 module _ (run ls name-run name-ls : List ℕ) where
   abbrev pub FalseList : Type 0
   FalseList = FalseCodes run ls ⊎ FalseNames (length ls) name-run name-ls
@@ -37,8 +37,6 @@ module _ (run ls name-run name-ls : List ℕ) where
 
   pub data SheetsInto (buffer : List ℕ) : SheetOutcome → Type 0 where
     false-list : FalseList → SheetsInto buffer (outcome (refused (whole falseList)) buffer)
-    no-join : (FalseList → ⊥) → Stuck turned (codesIn run ls)
-        → SheetsInto buffer (outcome (refused (whole stuck)) buffer)
     short-buffer : {ribbon sheet : List ℕ} {saved : ℕ} → (FalseList → ⊥) → Sheeted ribbon sheet saved
         → length buffer < length sheet → SheetsInto buffer (outcome (refused (whole shortBuffer)) buffer)
     filled : {ribbon sheet : List ℕ} {saved : ℕ} → (FalseList → ⊥) → Sheeted ribbon sheet saved
@@ -57,7 +55,7 @@ module _ (run ls name-run name-ls : List ℕ) where
   abbrev pub sheetFault : ℕ → ℕ
   sheetFault room =
       firstOf (when (not (listOk run ls && namesOk (length ls) name-run name-ls)) falseList)
-      (firstOf (when (isStuck turned (codesIn run ls)) stuck) (when (ltb room (length sheetFor)) shortBuffer))
+      (when (ltb room (length sheetFor)) shortBuffer)
 
   abbrev pub sheetOutcome : List ℕ → SheetOutcome
   sheetOutcome buffer =

@@ -11,7 +11,6 @@ use lib.ListN.{length, take, drop, length-map, length-append, take-append-drop}
 use lib.Seq.{length-take-le, drop-append-le}
 use borrow.Author.Tests.{ne-eqb, lt-ltb, le-ltb, ltb-true, ltb-false}
 use Rattle.words.specs.Turn.{turned}
-use Rattle.words.proofs.Turning.{turning}
 use Rattle.words.proofs.Deciding.{holds, passes}
 use Rattle.lists.specs.Refusals.{whole, falseList, longRibbon, unknownColour, shortBuffer}
 use Rattle.lists.specs.Outcome.{outcome}
@@ -20,20 +19,19 @@ use Rattle.lists.specs.Fit.{listOk, allBands}
 use Rattle.lists.proofs.Runs.{codes-count}
 use Rattle.lists.proofs.Rules.{codes-checked, is-fit-list}
 use Rattle.greedy.specs.Layout.{ribbonFor}
-use Rattle.greedy.proofs.Claims.{each-laid}
 use Rattle.places.specs.declared.Place as declared
 use Rattle.verdicts.specs.declared.Checked.{Checked}
 use Rattle.verdicts.specs.declared.Checked.the-variants.{Held}
 use Rattle.checking.specs.Check.{none-missing, missing, missingOn}
 use Rattle.checking.specs.Answers.{PlaceRecord, CheckAnswer, CheckOutcome, refused, missing-code, held, AreRecords, Fit}
-use Rattle.checking.specs.Answers.{ChecksInto, false-list, long-ribbon, no-colour, no-join, no-place, short-buffer, filled}
+use Rattle.checking.specs.Answers.{ChecksInto, false-list, long-ribbon, no-colour, no-place, short-buffer, filled}
 use Rattle.checking.specs.Answers.{less, recordsFrom, suppliedFault, heldOutcome, checkOutcome}
 use Rattle.places.specs.Calls.{recordOf, recordsOf, blanks, FindsPlaces}
 use Rattle.verdicts.specs.Calls.{answerOf, ChecksRibbon, ChecksInRoom, ChecksAlone}
 use Rattle.checking.proofs.Answers.{checks-ours, into-only}
 use Rattle.places.proofs.Finding.{count-missing, none-is-missing, records-are}
 
--- The refusals of what is supplied, by their tests; no list gets stuck.
+-- The refusals of what is supplied, by their tests.
 module _ (run ls row : List ℕ) where
   pub false-fault : listOk run ls ≡ false → suppliedFault run ls row ≡ falseList
   false-fault e = rw (e, suppliedFault)
@@ -46,7 +44,7 @@ module _ (run ls row : List ℕ) where
     colour-fault e = rw (ok, le-ltb 16384 (length row) l, e, suppliedFault)
 
     pub no-fault : allBands row ≡ true → suppliedFault run ls row ≡ 0
-    no-fault e = rw (ok, le-ltb 16384 (length row) l, e, each-laid turned turning (codesIn run ls) .never-found-stuck, suppliedFault)
+    no-fault e = rw (ok, le-ltb 16384 (length row) l, e, suppliedFault)
 
   -- where no refusal is due the list is fit and the ribbon not too long
   pub not-faulty : suppliedFault run ls row ≡ 0 → (listOk run ls ≡ true) × (length row ≤ 16384)
@@ -173,7 +171,6 @@ module _ {run ls row : List ℕ} (short rest : List PlaceRecord) (h : 128 ≤ le
   more-lent (false-list f) = false-list f
   more-lent (long-ribbon f l) = long-ribbon f l
   more-lent (no-colour f l b) = no-colour f l b
-  more-lent (no-join F s) = no-join F s
   more-lent (no-place F m) = no-place F m
   more-lent (short-buffer F a l) = absurd (omega (arith, few-codes F, l, h))
   more-lent (filled {d = v} rs F a l y d z) =

@@ -16,7 +16,7 @@ use supplied::computed_length;
 use supplied::difference;
 use supplied::supplied_fault;
 
-// Held with the supplied length minus the computed one; missing the code of a number; or the refusal, 12, 15, 8, 14 or 13.
+// Held with the supplied length minus the computed one; missing the code of a number; or the refusal, 12, 15, 8 or 13.
 pub enum Checked {
     Refused(Refusal),
     Missing(u32),

@@ -11,7 +11,7 @@ ghost use Rattle.checking.specs.Answers.{less, suppliedFault};
 use layout::Laid;
 use layout::lay_ribbon;
 
-// The refusal of a list or of a ribbon, 12, 15 or 8; 0 if none is due. 14 is never due.
+// The refusal of a list or of a ribbon, 12, 15 or 8; 0 if none is due.
 pub fn supplied_fault(bands: &[u8], lengths: &[u16], ribbon: &[u8]) -> u8
     ensures { λ r. ⌜ r ≡ suppliedFault (now (bands .entry)) (now (lengths .entry)) (now (ribbon .entry)) ⌝ }
 {

@@ -3,7 +3,7 @@ use mathlib.Core.Path.{_≡_, refl, ap}
 use mathlib.Core.Logic.{_⊎_, inl, inr}
 use mathlib.Core.List.{List, [], _∷_, _++_, map}
 use Prim.Native.Nat.{ℕ, zero, suc}
-use lib.ListN.{take, drop}
+use lib.ListN.{take, drop, getD}
 use Rattle.words.specs.Lists.{In, Each}
 
 module _ {A : Type 0} where
@@ -41,6 +41,12 @@ module _ {A : Type 0} (P : A → Type 0) where
   pub each-in : (xs : List A) (x : A) → Each P xs → In x xs → P x
   each-in (y ∷ ys) x (p, h) (inl e) = rw e p
   each-in (y ∷ ys) x (p, h) (inr i) = each-in ys x h i
+
+  -- at any index, where d stands past the end
+  pub each-at : (xs : List A) (d : A) → P d → Each P xs → (i : ℕ) → P (getD xs i d)
+  each-at [] d p h i = p
+  each-at (x ∷ xs) d p h zero = h .0
+  each-at (x ∷ xs) d p h (suc i) = each-at xs d p (h .1) i
 
   pub each-take : (n : ℕ) (xs : List A) → Each P xs → Each P (take n xs)
   each-take zero xs h = tt

@@ -127,7 +127,7 @@ module _ (run ls name-run name-ls buffer : List ℕ) where
   writes-false e a =
       writes (rw (if-tests run ls name-run name-ls buffer (ap not e) refl) (record { answer = a; left = refl }))
 
-  -- else the outcome is that of the sheet: no list gets stuck
+  -- else the outcome is that of the sheet
   fit-by : (t : Bool) → ltb (length buffer) (length (sheetFor run ls name-run name-ls)) ≡ t → listOk run ls ≡ true
       → namesOk (length ls) name-run name-ls ≡ true
       → sheetOutcome run ls name-run name-ls buffer

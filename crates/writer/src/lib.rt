@@ -10,7 +10,7 @@ use pages::put_sheet;
 use places::find_places;
 use sheet_rows::sheet_size;
 
-// The sheet's length and what its ribbon saves; or the refusal, 12, 14 or 13.
+// The sheet's length and what its ribbon saves; or the refusal, 12 or 13.
 pub enum Wrote {
     Refused(Refusal),
     Sheet { bytes: u32, saved: u32 },
@@ -54,7 +54,6 @@ fn write_laid(
 
 // Writes the sheet of a list of codes with names into a lent buffer. It answers with the sheet's length and what its ribbon
 // saves. It refuses a false list or false names by 12, and a buffer that is too short by 13; then nothing lent is touched.
-// 14 is never due.
 pub fn write_sheet(
     bands: &[u8],
     lengths: &[u16],

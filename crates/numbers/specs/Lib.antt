@@ -1,0 +1,2 @@
+-- The numbers of refusals, call by call.
+pub mod Numbers

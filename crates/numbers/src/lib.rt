@@ -1,0 +1,1 @@
+// By which numbers each call and each program refuses. No routine.
