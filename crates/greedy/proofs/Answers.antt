@@ -1,7 +1,7 @@
 -- The claim on a call that lays out a list: ours meets it and nothing else does. Of whatever call meets it, an answer
 -- with saved has demand 3, and the ribbon holds every code.
 use mathlib.Core.Path.{_≡_, refl, sym, ap, ap₂, subst, _∙_}
-use mathlib.Core.Bool.{Bool, true, false}
+use mathlib.Core.Bool.{Bool, true, false, not}
 use mathlib.Core.List.{List}
 use Prim.Native.Nat.{ℕ, _<_}
 use native.Mathlib.Omega.{arith}
@@ -16,6 +16,7 @@ use Rattle.lists.specs.Refusals.{Refusal, whole, falseList, shortBuffer, when, 
 use Rattle.lists.specs.Outcome.{outcome}
 use Rattle.lists.specs.Runs.{codesIn, over}
 use Rattle.lists.specs.Rules.{FalseCodes}
+use Rattle.lists.specs.Fit.{listOk}
 use Rattle.lists.proofs.Rules.{is-false-codes}
 use Rattle.joins.specs.Rules.{Chosen}
 use Rattle.greedy.specs.Rules.{Lays}
@@ -41,6 +42,9 @@ module _ (run ls buffer : List ℕ) where
         | false ↦ outcome (refused (whole f)) buffer
       ]
 
+  as-tested : layOutcome run ls buffer ≡ byTests (not (listOk run ls)) (ltb (length buffer) (length ribbon))
+  as-tested = refl
+
   -- Ours meets it.
   meets : {bad short : Bool} → Decides (FalseCodes run ls) bad → Decides (length buffer < length ribbon) short
       → LaysInto run ls buffer (byTests bad short)
@@ -50,12 +54,15 @@ module _ (run ls buffer : List ℕ) where
 
   -- Nothing else does: each case is the one of ours.
   if-false : FalseCodes run ls → layOutcome run ls buffer ≡ outcome (refused (whole falseList)) buffer
-  if-false f = ap (λ (t : Bool). byTests t (ltb (length buffer) (length ribbon))) (passes (is-false-codes run ls) f)
+  if-false f =
+      as-tested
+      ∙ ap (λ (t : Bool). byTests t (ltb (length buffer) (length ribbon))) (passes (is-false-codes run ls) f)
 
   if-fit : (FalseCodes run ls → ⊥) → (t : Bool) → ltb (length buffer) (length ribbon) ≡ t
       → layOutcome run ls buffer ≡ byTests false t
   if-fit fit t e =
-      ap (λ (b : Bool). byTests b (ltb (length buffer) (length ribbon))) (refuses (is-false-codes run ls) fit)
+      as-tested
+      ∙ ap (λ (b : Bool). byTests b (ltb (length buffer) (length ribbon))) (refuses (is-false-codes run ls) fit)
       ∙ ap (byTests false) e
 
   into-only : {o : LayOutcome} → LaysInto run ls buffer o → o ≡ layOutcome run ls buffer

@@ -31,7 +31,7 @@ use Rattle.numbers.specs.Numbers.{Call, read-orders, lay-ribbon, check-r
 use Rattle.numbers.specs.Numbers.{ribbon-output, sheet-output, check-output}
 use Rattle.numbers.specs.Numbers.{Refuses, reading, laying, checking, in-room, alone, writing}
 use Rattle.numbers.specs.Numbers.{printing-ribbon, printing-sheet, printing-check}
-use Rattle.numbers.specs.Numbers.{listNumbers, numbersOf, Numbers}
+use Rattle.numbers.specs.Numbers.{listNumbers, numbersOf, Only, Retired, Numbers}
 use Rattle.numbers.proofs.Listed.{isListed, is-listed}
 use Rattle.numbers.proofs.Files.{reads-number}
 use Rattle.numbers.proofs.Lines.{no-ribbon, no-sheet, check-number, prints-number}
@@ -95,7 +95,7 @@ printed : {text before after : List ℕ} {r : ℕ} → WritesOver text before af
 printed {text} {before} w = sym (rw (w .long, w .written) (take-append-seam text (drop (length text) before)))
 
 -- All of them.
-only : (call : Call) (n : ℕ) → Refuses call n → In n (numbersOf call)
+only : Only
 only call n (reading m) = read-number (m .means .0)
 only call n (laying m) = lay-number (m .means)
 only call n (checking m) = records-number (m .means)
@@ -118,17 +118,20 @@ only call n (printing-check list file m line) =
     (λ names codes s h d e. in-right n listNumbers of-ribbon (check-number line d e))
     (check-program-ours list file (ribbonOf file) (takes-ours file)) (printed m)
 
-not-14 : (call : Call) → isListed 14 (numbersOf call) ≡ false
-not-14 read-orders = refl
-not-14 lay-ribbon = refl
-not-14 check-ribbon = refl
-not-14 check-places = refl
-not-14 check-only = refl
-not-14 write-sheet = refl
-not-14 ribbon-output = refl
-not-14 sheet-output = refl
-not-14 check-output = refl
+-- A number that is not listed is not given.
+unlisted : (call : Call) (n : ℕ) → isListed n (numbersOf call) ≡ false → Refuses call n → ⊥
+unlisted call n e r = fails (is-listed n (numbersOf call)) e (only call n r)
+
+retired : Retired
+retired read-orders = unlisted read-orders _ refl
+retired lay-ribbon = unlisted lay-ribbon _ refl
+retired check-ribbon = unlisted check-ribbon _ refl
+retired check-places = unlisted check-places _ refl
+retired check-only = unlisted check-only _ refl
+retired write-sheet = unlisted write-sheet _ refl
+retired ribbon-output = unlisted ribbon-output _ refl
+retired sheet-output = unlisted sheet-output _ refl
+retired check-output = unlisted check-output _ refl
 
 pub numbers : Numbers
-numbers =
-    record { only = only; retired = λ call r. fails (is-listed 14 (numbersOf call)) (not-14 call) (only call 14 r) }
+numbers = record { only = only; retired = retired }

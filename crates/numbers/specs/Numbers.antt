@@ -72,8 +72,13 @@ numbersOf ribbon-output = listNumbers
 numbersOf sheet-output = listNumbers
 numbersOf check-output = listNumbers ++ (longRibbon ∷ unknownColour ∷ [])
 
+-- The claim: whatever a call is handed, it refuses by no other number than its own, and none by 14.
+abbrev pub Only : Type 0
+Only = (call : Call) (n : ℕ) → Refuses call n → In n (numbersOf call)
+
+abbrev pub Retired : Type 0
+Retired = (call : Call) → Refuses call 14 → ⊥
+
 pub record Numbers : Type 0 where
-  -- whatever a call is handed, it refuses by no other number than its own,
-  pub only : (call : Call) (n : ℕ) → Refuses call n → In n (numbersOf call)
-  -- and none by 14
-  pub retired : (call : Call) → Refuses call 14 → ⊥
+  pub only : Only
+  pub retired : Retired
