@@ -43,7 +43,7 @@ before-comma (x ∷ s) (y ∷ t) u v a b e =
     cc (f, r)
 
 line-tells : {n m row col : ℕ} {s t : List ℕ} → RefusedLine n row s → RefusedLine m col t → s ≡ t → n ≡ m
-line-tells {n} {m} (refused-line {number = a} {counted = b} d e) (refused-line {number = c} {counted = f} g h) q =
+line-tells {n} (refused-line {number = a} {counted = b} d e) (refused-line {number = c} {counted = f} g h) q =
     let p = before-comma a c (b ++ lineBreak) (f ++ lineBreak) (digits-past d) (digits-past g) (ap (drop 8) q) in
     digits-tell (subst (Digits n) p d) g
 
