@@ -1,50 +1,48 @@
--- What a program prints, read back: a line of refusal begins with r, as no ribbon, sheet or other line does, and the digits
--- before its second comma tell the number. So the number is that of the refusal which the claim on the program has for it.
+-- What a program prints, read back: a line of refusal begins with r, as no ribbon, sheet or other line does, and its second
+-- field tells the number. So the number is that of the refusal which the claim on the program has for it.
 use mathlib.Core.Path.{_≡_, refl, sym, ap, subst, _∙_}
 use mathlib.Core.Logic.{inl, inr}
-use mathlib.Core.List.{List, [], _∷_, _++_}
-use Prim.Native.Nat.{ℕ, _+_, _≤_}
+use mathlib.Core.List.{List, [], _∷_, _++_, append-assoc}
+use Prim.Native.Nat.{ℕ}
 use native.Mathlib.Omega.{arith}
-use lib.ListN.{drop, getD}
+use lib.ListN.{getD}
+use Rattle.words.specs.Texts.{text}
 use Rattle.words.specs.Lists.{In, Each}
 use Rattle.words.specs.Turn.{turned}
 use Rattle.words.proofs.Turning.{turned-each}
-use Rattle.words.proofs.Lists.{each-append}
 use Rattle.lists.specs.Refusals.{longRibbon, unknownColour}
 use Rattle.lists.specs.Rules.{Band}
 use Rattle.grammar.specs.Files.{comma, lineBreak}
+use Rattle.grammar.specs.Rows.{Row, firstRow}
+use Rattle.grammar.specs.Grammar as g
+use Rattle.grammar.specs.Grammar.{unquoted, one, more, RowAt}
+use Rattle.grammar.proofs.Scan.{scan-row}
 use Rattle.greedy.proofs.Bands.{ribbon-each}
-use Rattle.sheets.specs.Decimal.{Digits, one-digit, one-more}
+use Rattle.sheets.specs.Decimal.{Digits}
 use Rattle.sheets.specs.Sheet.{heading-first}
 use Rattle.sheets.proofs.Decimal.{digits-tell}
+use Rattle.sheets.proofs.ReadBack.{digits-text}
 use Rattle.programs.specs.Prints.{RefusedLine, refused-line, Prints, refuses, writes, RibbonLine, ribbon-line}
 use Rattle.programs.specs.Prints.{SheetRows, sheet-rows, CheckLine, long-ribbon, no-colour, missing-line, held-line}
 use Rattle.numbers.specs.Numbers.{listNumbers}
 use Rattle.numbers.proofs.Files.{reads-number, reads-bands}
 
--- No digit is a comma.
-abbrev PastComma : ℕ → Type 0
-PastComma b = 48 ≤ b
-
-digits-past : {v : ℕ} {t : List ℕ} → Digits v t → Each PastComma t
-digits-past (one-digit l) = (omega arith, tt)
-digits-past (one-more {d = d} {t} p h l) = each-append PastComma t ((48 + d) ∷ []) (digits-past h) (omega arith, tt)
-
-first-one : {x y : ℕ} {s t : List ℕ} → x ∷ s ≡ y ∷ t → x ≡ y
-first-one e = cc (e)
-
-before-comma : (s t u v : List ℕ) → Each PastComma s → Each PastComma t → s ++ (comma ∷ u) ≡ t ++ (comma ∷ v) → s ≡ t
-before-comma [] [] u v a b e = refl
-before-comma [] (y ∷ t) u v a b e = absurd (omega (arith, first-one e, b .0))
-before-comma (x ∷ s) [] u v a b e = absurd (omega (arith, first-one e, a .0))
-before-comma (x ∷ s) (y ∷ t) u v a b e =
-    let f = first-one e in
-    let r = before-comma s t u v (a .1) (b .1) (ap (drop 1) e) in
-    cc (f, r)
+-- A line of refusal is a row of the grammar, and its second field tells the number.
+line-row : {n row : ℕ} {number counted : List ℕ} → Digits n number → Digits row counted
+    → RowAt (text "refused," ++ (number ++ (comma ∷ (counted ++ lineBreak)))) (text "refused" ∷ number ∷ counted ∷ []) []
+line-row {number = a} {counted = b} d e =
+    record {
+      written = text "refused" ++ (comma ∷ (a ++ (comma ∷ b)));
+      after = lineBreak;
+      parts = simp append-assoc;
+      is-row = more (unquoted {c = text "refused"} (omega arith)) (more (unquoted (digits-text d)) (one (unquoted (digits-text e))));
+      ends = g.line;
+    }
 
 line-tells : {n m row col : ℕ} {s t : List ℕ} → RefusedLine n row s → RefusedLine m col t → s ≡ t → n ≡ m
-line-tells {n} (refused-line {number = a} {counted = b} d e) (refused-line {number = c} {counted = f} g h) q =
-    let p = before-comma a c (b ++ lineBreak) (f ++ lineBreak) (digits-past d) (digits-past g) (ap (drop 8) q) in
+line-tells {n} (refused-line {number = a} d e) (refused-line {number = b} g h) q =
+    let r = sym (scan-row (line-row d e)) ∙ ap firstRow q ∙ scan-row (line-row g h) in
+    let p : a ≡ b = ap (λ (x : Row). getD (x .fields) 1 []) r in
     digits-tell (subst (Digits n) p d) g
 
 -- A text that does not begin with r is no line of refusal.

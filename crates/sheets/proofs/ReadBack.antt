@@ -18,7 +18,7 @@ use Rattle.sheets.specs.Sheet.{heading-first}
 use Rattle.sheets.specs.ReadBack.{ReadsAs, at-end, one-row, no-codes, one-code, FieldsFor, ReadsBack}
 
 -- what the fields after the name are made of
-digits-text : {v : ℕ} {t : List ℕ} → Digits v t → Each Text t
+pub digits-text : {v : ℕ} {t : List ℕ} → Digits v t → Each Text t
 digits-text (one-digit l) = omega arith
 digits-text (one-more {d} {t} p h l) = each-append Text t ((48 + d) ∷ []) (digits-text h) (omega arith)
 
