@@ -5,7 +5,12 @@ use crate::calls::run;
 use crate::cases::{groups, work, Case, Work};
 use crate::text::Text;
 
-const FILE: &str = concat!(env!("CARGO_MANIFEST_DIR"), "/../crates/trials/stdin");
+/// The file of cases of the tree in which the tests are run, which need not be
+/// the one in which they were built.
+fn file_of_cases() -> Vec<u8> {
+    let here = std::env::var("CARGO_MANIFEST_DIR").expect("cargo runs the tests");
+    std::fs::read(here + "/../crates/trials/stdin").expect("the file of cases is there")
+}
 
 /// The parts of remarks that are wrong, each with its line, in a file that is
 /// right otherwise. A case without a remark has one part, of no bytes.
@@ -51,7 +56,7 @@ fn begins(line: &[u8], part: &str) -> bool {
 
 #[test]
 fn every_case_has_a_remark_that_is_right() {
-    let file = std::fs::read(FILE).expect("the file of cases is there");
+    let file = file_of_cases();
     groups(&file).expect("every line is right");
     let faults = faults(&String::from_utf8(file).expect("every line is right"));
     assert!(faults.is_empty(), "{}", faults.join("\n"));
