@@ -135,7 +135,7 @@ fn overlaps(faces: &[Vec<u8>]) -> Vec<Vec<usize>> {
 }
 
 /// The length of the longest ending of a that is also a beginning of b.
-fn overlap(a: &[u8], b: &[u8]) -> usize {
+pub fn overlap(a: &[u8], b: &[u8]) -> usize {
     let longest_first = (1..=a.len().min(b.len())).rev();
     let mut shared = longest_first.filter(|n| a.ends_with(&b[..*n]));
     shared.next().unwrap_or(0)

@@ -19,6 +19,7 @@ mod rules;
 mod sheet;
 
 pub use check::{check_ribbon, Checked};
+pub use join::overlap;
 pub use lay::{lay_ribbon, Laid};
 pub use orders::{read_orders, Read};
 pub use place::{Place, Way};

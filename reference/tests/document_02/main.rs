@@ -2,9 +2,11 @@
 //! are worked out by hand from it.
 
 #[path = "../document_01/chance.rs"]
+#[allow(dead_code)]
 mod chance;
 #[path = "../document_01/common.rs"]
 #[allow(dead_code)]
 mod common;
 
+mod m105_one_pass;
 mod m112_number_14;
