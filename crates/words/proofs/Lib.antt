@@ -5,8 +5,11 @@ pub mod Deciding
 pub mod Turning
 pub mod Standing
 pub mod Overlaps
+pub mod Falling
+pub mod FallBacks
 pub mod Placing
 pub mod Ways
 pub mod Written
 pub mod Partly
 pub mod Impostors
+pub mod WrongPasses

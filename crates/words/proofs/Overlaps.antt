@@ -15,14 +15,14 @@ use lib.Seq.{length-take-le, take-at, drop-at, drop-length}
 use Rattle.words.specs.Tests.{pick}
 use Rattle.words.specs.Turn.{Turning}
 use Rattle.words.specs.Stand.{Stands}
-use Rattle.words.specs.Overlap.{Shares, Overlaps, LongestWithin, agrees, overlapFrom, overlap}
+use Rattle.words.specs.Overlap.{Shares, Longest, Overlaps, LongestWithin, agrees, overlapFrom, overlap}
 use Rattle.words.proofs.Tests.{same-eq, eq-same}
 use Rattle.words.proofs.Standing.{Between, between}
 
-shares-left : {a b : List ℕ} {o : ℕ} (h : Shares a b o) → length a ≡ length (h .rest) + o
+pub shares-left : {a b : List ℕ} {o : ℕ} (h : Shares a b o) → length a ≡ length (h .rest) + o
 shares-left h = omega (arith, simp length-append at (ap length (h .ending)), h .size)
 
-shares-right : {a b : List ℕ} {o : ℕ} (h : Shares a b o) → length b ≡ o + length (h .more)
+pub shares-right : {a b : List ℕ} {o : ℕ} (h : Shares a b o) → length b ≡ o + length (h .more)
 shares-right h = omega (arith, simp length-append at (ap length (h .beginning)), h .size)
 
 -- the search for it
@@ -104,8 +104,11 @@ overlap-longest a b m h =
 pub overlaps-ours : Overlaps overlap
 overlaps-ours a b = record { shares = overlap-shares a b; most = overlap-longest a b }
 
+pub longest-only : (a b : List ℕ) (o : ℕ) → Longest a b o → o ≡ overlap a b
+longest-only a b o h = le-antisymm (overlap-longest a b o (h .shares)) (h .most (overlap a b) (overlap-shares a b))
+
 pub overlaps-only : (w : List ℕ → List ℕ → ℕ) → Overlaps w → (a b : List ℕ) → w a b ≡ overlap a b
-overlaps-only w h a b = le-antisymm (overlap-longest a b _ (h a b .shares)) (h a b .most _ (overlap-shares a b))
+overlaps-only w h a b = longest-only a b (w a b) (h a b)
 
 pub overlap-right : (a b : List ℕ) → overlap a b ≤ length b
 overlap-right a b = omega (arith, shares-right (overlap-shares a b))

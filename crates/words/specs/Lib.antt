@@ -7,5 +7,6 @@ pub mod Ways
 pub mod Written
 pub mod Stand
 pub mod Overlap
+pub mod Falling
 pub mod Place
 pub mod Texts
