@@ -1,5 +1,5 @@
 -- Trying the lengths of an overlap from the longest down: while none that was tried agrees, the overlap is the longest of
--- those left.
+-- those left, and a pass along so many bands finds it.
 use mathlib.Core.Path.{_≡_, refl, sym, _∙_}
 use mathlib.Core.Bool.{Bool, true, false}
 use mathlib.Core.List.{List}
@@ -7,12 +7,14 @@ use Prim.Native.Nat.{ℕ, zero, suc, _-_, _≤_, _<_}
 use native.Mathlib.Omega.{arith}
 use lib.Dec.{leb}
 use borrow.Author.Tests.{leb-false}
-use lib.ListN.{length}
+use lib.ListN.{length, drop}
 use Rattle.words.specs.Tests.{pick}
 use Rattle.words.specs.Ways.{wayOf}
 use Rattle.words.specs.Overlap.{agrees, overlapFrom, overlap}
-use Rattle.words.proofs.Overlaps.{hit, miss, least-right}
+use Rattle.words.specs.Falling.{Held}
+use Rattle.words.proofs.Overlaps.{hit, miss, least-right, overlap-within}
 use Rattle.words.proofs.Ways.{way-size}
+use Rattle.words.proofs.Falling.{held-last}
 
 -- at most k bands are left to try
 pub record Tried (a b : List ℕ) (k : ℕ) : Type 0 where
@@ -49,6 +51,8 @@ module _ (a b : List ℕ) where
         left = sym (miss a b o e) ∙ t .left;
       })
 
-  pub tried-all : (k : ℕ) → Tried a b k → k ≤ 0 → 0 ≡ overlap a b
-  tried-all zero t l = t .left
-  tried-all (suc o) t l = absurd (omega arith)
+pub tried-last : (p : Bool) (a : List ℕ) (q : Bool) (b : List ℕ) (k r : ℕ) → Tried (wayOf p a) (wayOf q b) k
+    → Held (drop (length a - k) (wayOf p a)) (wayOf q b) k r → r ≡ overlap (wayOf p a) (wayOf q b)
+tried-last p a q b k r t h =
+    let l : overlap (wayOf p a) (wayOf q b) ≤ k = rw (← t .left) (overlap-within (wayOf p a) (wayOf q b) k (t .in-right) .within) in
+    held-last (wayOf p a) (wayOf q b) k r (t .in-left) l (rw (way-size p a) h)

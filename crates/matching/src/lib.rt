@@ -1,6 +1,7 @@
 // Words compared and written, each read as given or turned.
 mod bands;
 mod endings;
+mod falling;
 mod starts;
 mod writing;
 

@@ -1,10 +1,11 @@
--- `overlap` tries the lengths from the longest down. The invariant: none of those tried agrees.
+-- `overlap` tries the lengths that are too long for the pass from the longest down. The invariant: none of those tried
+-- agrees. Then the pass finds the longest of those left.
 use mathlib.Core.Path.{sym, _∙_}
 use borrow.Author.Needs.{needs}
 use native.Mathlib.Omega.{arith}
 use Rattle.words.specs.Ways.{wayOf}
 use Rattle.words.proofs.Ways.{way-size}
-use Rattle.matching.proofs.Trying.{Tried, tried-none, tried-hit, tried-miss, tried-all}
+use Rattle.matching.proofs.Trying.{Tried, tried-none, tried-hit, tried-miss, tried-last}
 use Rattle.matching.proofs.endings.overlap.Statement.{statement}
 use Rattle.matching.proofs.endings.overlap.Tie as tie
 
@@ -43,8 +44,17 @@ loop-again c =
     let w = c .before .before .before in
     tried-miss _ _ _ (w .loop .inv) (omega arith) (sym (c .before .agree .ensures) ∙ c .if1 .left)
 
+held-at-end-requires : tie.Need-held-at-end-requires Inv-loop μ-loop
+held-at-end-requires c κs =
+    let w = c .before in
+    let x = w .before .before .before .before .args in
+    (omega (arith, way-size (x .a-turned) (x .a .now), w .loop .inv), omega arith)
+
 returns-2 : tie.Need-returns-2 Inv-loop μ-loop
-returns-2 c = tried-all _ _ _ (c .before .loop .inv) (omega arith)
+returns-2 c =
+    let w = c .before .before in
+    let x = w .before .before .before .before .args in
+    tried-last (x .a-turned) (x .a .now) (x .b-turned) (x .b .now) _ _ (w .loop .inv) (c .held-at-end .ensures)
 
 pub overlap-spec : {M : Type 1} → statement M
 overlap-spec =
@@ -59,4 +69,5 @@ overlap-spec =
     sub-k
     loop-less
     loop-again
+    held-at-end-requires
     returns-2)

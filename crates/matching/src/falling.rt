@@ -1,0 +1,68 @@
+// Pattern matching: a pass along one word that holds the longest beginning of another that ends there, and falls back to
+// shorter beginnings where the next band does not follow (document 000, section 2.1).
+ghost use Prim.Native.Nat.{_+_, _-_, _≤_, _<_};
+ghost use lib.ListN.{length, drop};
+ghost use Rattle.words.specs.Decides.{Decides};
+ghost use Rattle.words.specs.Ways.{wayOf};
+ghost use Rattle.words.specs.Falling.{Held, FallBacks, Follows, Advances};
+use crate::bands::band_at;
+
+// The most bands that a pass can hold, as many as a code has.
+pub const MOST_HELD: usize = 64;
+
+// Band x follows the first k bands in a way of b. Nothing follows all of it.
+fn follows(b: &[u8], turned: bool, k: usize, x: u8) -> bool
+    ensures { λ r. ⌜ Decides (Follows (wayOf turned (now (b .entry))) k x) r ⌝ }
+{
+    if k < b.len() {
+        return band_at(b, turned, k) == x;
+    }
+    false
+}
+
+// One band further: m bands of a way of b are held, and x comes next. The row has the fall-backs from up to m bands.
+fn go_on(b: &[u8], turned: bool, falls: &[usize], m: usize, x: u8) -> usize
+    requires { ⌜ (m ≤ length (now b)) × FallBacks (wayOf turned (now b)) (now falls) m ⌝ }
+    ensures { λ r. ⌜ Advances (wayOf turned (now (b .entry))) m x r ⌝ }
+{
+    let mut k = m;
+    while !follows(b, turned, k, x) {
+        if k == 0 {
+            return 0;
+        }
+        k = falls[k];
+    }
+    k + 1
+}
+
+// The row has the fall-backs from up to n bands. Where one more is held than ever before, it gets the fall-back from these m:
+// b goes on from the fall-back from n bands as it goes on from n. The answer is how far the row is filled.
+fn fill_to(b: &[u8], turned: bool, falls: &mut [usize], n: usize, m: usize) -> usize
+    requires { ⌜ (0 < n) × (m ≤ n + 1) × (m ≤ length (now b)) × (m < length (now falls)) × FallBacks (wayOf turned (now b)) (now falls) n ⌝ }
+    ensures { λ r. ⌜ (n ≤ r) × (m ≤ r) × FallBacks (wayOf turned (now (b .entry))) (now (falls .exit)) r ⌝ }
+{
+    if m <= n {
+        return n;
+    }
+    falls[m] = go_on(b, turned, falls, falls[n], band_at(b, turned, n));
+    m
+}
+
+// The match held at the end of a pass along the last k bands of a way of a: the longest beginning of a way of b that ends
+// there. The row of fall-backs is filled no further than the match has come.
+pub fn held_at_end(a: &[u8], a_turned: bool, k: usize, b: &[u8], b_turned: bool) -> usize
+    requires { ⌜ (k ≤ length (now a)) × (k ≤ 64) ⌝ }
+    ensures { λ r. ⌜ Held (drop (length (now (a .entry)) - k) (wayOf «a_turned» (now (a .entry)))) (wayOf «b_turned» (now (b .entry))) k r ⌝ }
+{
+    let start = a.len() - k;
+    let mut falls = [0usize; MOST_HELD + 1];
+    let mut filled = 1;
+    let mut m = 0;
+    let mut i = 0;
+    while i < k {
+        m = go_on(b, b_turned, &falls, m, band_at(a, a_turned, start + i));
+        filled = fill_to(b, b_turned, &mut falls, filled, m);
+        i += 1;
+    }
+    m
+}
