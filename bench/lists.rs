@@ -36,6 +36,19 @@ pub fn largest() -> Vec<Case> {
     ]
 }
 
+/// For the overlaps alone. The last ones are longer than any code.
+pub fn overlapped() -> Vec<Case> {
+    vec![
+        Case::new("random, 26 letters", random(26), Vec::new()),
+        Case::new("26 letters, 1 to 64 bands", random_lengths(26), Vec::new()),
+        Case::new("random, 2 letters", random(2), Vec::new()),
+        Case::new("2 letters, 1 to 64 bands", random_lengths(2), Vec::new()),
+        Case::new("nearly all equal", nearly_equal(), Vec::new()),
+        Case::new("Fibonacci words", fibonacci(), Vec::new()),
+        Case::new("longer than a code", longer(), Vec::new()),
+    ]
+}
+
 /// For the check, each with a ribbon of 16,384 bands: every code stands only near its end, or the
 /// last one nowhere.
 pub fn checked() -> Vec<Case> {
@@ -102,6 +115,34 @@ impl Random {
 fn random(letters: usize) -> Vec<Vec<u8>> {
     let mut random = Random(1);
     (0..CODES).map(|_| random.bands(BANDS, letters)).collect()
+}
+
+fn random_lengths(letters: usize) -> Vec<Vec<u8>> {
+    let mut random = Random(6);
+    let code = |_| {
+        let size = 1 + random.below(BANDS);
+        random.bands(size, letters)
+    };
+    (0..CODES).map(code).collect()
+}
+
+/// Parts of the Fibonacci word, ABAABABA and so on, in which each beginning is followed by the one
+/// before it: the most that falling back can take.
+fn fibonacci() -> Vec<Vec<u8>> {
+    let (mut before, mut word) = (b"A".to_vec(), b"AB".to_vec());
+    while word.len() < CODES + BANDS {
+        let next = [&word[..], &before].concat();
+        before = std::mem::replace(&mut word, next);
+    }
+    (0..CODES).map(|i| word[i..i + BANDS].to_vec()).collect()
+}
+
+/// Each begins with a good half of the one before it, and has more bands than a code may have.
+fn longer() -> Vec<Vec<u8>> {
+    let (size, step) = (BANDS * 2, BANDS * 3 / 4);
+    let bands = Random(7).bands(size + CODES * step, 2);
+    let word = |i: usize| bands[i * step..i * step + size].to_vec();
+    (0..CODES).map(word).collect()
 }
 
 /// All A but one or two bands. No code is another one or another one turned, so none is dropped.

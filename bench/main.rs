@@ -1,5 +1,5 @@
-//! Times the calls on the largest lists whole: laying out, checking a supplied ribbon, writing the
-//! sheet. Started by `bench/run`.
+//! Times the overlap alone, and the calls on the largest lists whole: laying out, checking a supplied
+//! ribbon, writing the sheet. Started by `bench/run`.
 //!
 //! The proved library stands beside Rust by the same method, once with plain index loops over the
 //! same data and once with slices. All have to answer, and leave in the lent buffer, what the
@@ -38,8 +38,16 @@ struct Work {
     runs: usize,
 }
 
-fn works() -> [Work; 3] {
+fn works() -> [Work; 4] {
     [
+        Work {
+            name: "16,384 overlaps",
+            calls: [proved::overlaps, same_method::overlaps, slices::overlaps],
+            expected: reference::overlaps,
+            room: 16_384,
+            cases: lists::overlapped(),
+            runs: 30,
+        },
         Work {
             name: "laying out",
             calls: [proved::lay, same_method::lay, slices::lay],

@@ -1,6 +1,8 @@
-//! What the reference implementation's command writes, as the outcome of a call.
+//! What the reference implementation's command writes, as the outcome of a call; of overlaps, which
+//! no program writes, what its library gives.
 
 use crate::work::{Answer, Case, Outcome, Verdict};
+use reference_library::overlap;
 use std::ffi::OsStr;
 use std::io::{Error, Result};
 use std::process::{Command, Stdio};
@@ -53,6 +55,14 @@ pub fn check(command: &OsStr, case: &Case, room: usize) -> Result<Outcome> {
     })
 }
 
+/// The overlap from each face to each.
+pub fn overlaps(_: &OsStr, case: &Case, room: usize) -> Result<Outcome> {
+    let faces = case.faces();
+    let each = faces.iter().flat_map(|a| faces.iter().map(move |b| (a, b)));
+    let overlaps: Vec<u8> = each.map(|(a, b)| overlap(a, b) as u8).collect();
+    Ok(Outcome::written(&overlaps, room))
+}
+
 fn strange(written: &[u8]) -> Error {
     Error::other(format!("it writes {:?}", String::from_utf8_lossy(written)))
 }
@@ -79,23 +89,11 @@ fn run(command: &mut Command, case: &Case) -> Result<Vec<u8>> {
 /// The order list of a case: every name in quotes, each quote inside doubled.
 pub fn order_list(case: &Case) -> Vec<u8> {
     let mut file = b"name,code\r\n".to_vec();
-    let names = parts(&case.names, &case.sizes);
-    for (name, code) in names.into_iter().zip(parts(&case.bands, &case.lengths)) {
+    for (name, code) in case.named().into_iter().zip(case.codes()) {
         let name = String::from_utf8_lossy(name).replace('"', "\"\"");
         file.extend(format!("\"{name}\",").bytes());
         file.extend(code);
         file.extend(b"\r\n");
     }
     file
-}
-
-/// A run cut by lengths.
-fn parts<'a>(run: &'a [u8], lengths: &[u16]) -> Vec<&'a [u8]> {
-    let mut rest = run;
-    let cut = |&length: &u16| {
-        let (part, after) = rest.split_at(length.into());
-        rest = after;
-        part
-    };
-    lengths.iter().map(cut).collect()
 }

@@ -2,10 +2,14 @@
 //! a face is a number, and all comparing and searching is done by plain loops over indices.
 #![allow(clippy::needless_range_loop)]
 
-use crate::work::{Answer, Case, Verdict};
+use crate::work::{each_overlap, Answer, Case, Verdict};
 
 pub fn lay(case: &Case, ribbon: &mut [u8]) -> Answer {
     Answer::Length(lay_ribbon(&case.bands, &case.lengths, ribbon))
+}
+
+pub fn overlaps(case: &Case, out: &mut [u8]) -> Answer {
+    each_overlap(case, out, overlap)
 }
 
 const CODES: usize = 128;
@@ -295,23 +299,76 @@ fn order_codes(parts: &Parts, order: &mut [usize]) -> usize {
     }
 }
 
-// Writing
+// Overlaps
 
-fn overlap(parts: &Parts, a: usize, b: usize) -> usize {
-    let (c, d) = (parts.part(a / 2), parts.part(b / 2));
-    let mut k = c.len().min(d.len());
-    while k > 0 && !agree(c, a % 2 == 1, d, b % 2 == 1, k) {
+/// The most bands that a pass can hold.
+const MOST_HELD: usize = LONGEST;
+
+fn follows(b: &[u8], turned: bool, k: usize, x: u8) -> bool {
+    if k < b.len() {
+        return band_at(b, turned, k) == x;
+    }
+    false
+}
+
+/// One band further: m bands of a way of b are held, and x comes next.
+fn go_on(b: &[u8], turned: bool, falls: &[usize], m: usize, x: u8) -> usize {
+    let mut k = m;
+    while !follows(b, turned, k, x) {
+        if k == 0 {
+            return 0;
+        }
+        k = falls[k];
+    }
+    k + 1
+}
+
+/// How far the row of fall-backs is filled then: to m, where that is further than ever before.
+fn fill_to(b: &[u8], turned: bool, falls: &mut [usize], n: usize, m: usize) -> usize {
+    if m <= n {
+        return n;
+    }
+    falls[m] = go_on(b, turned, falls, falls[n], band_at(b, turned, n));
+    m
+}
+
+/// The match held at the end of a pass along the last k bands of a way of a.
+fn held_at_end(a: &[u8], a_turned: bool, k: usize, b: &[u8], b_turned: bool) -> usize {
+    let start = a.len() - k;
+    let mut falls = [0; MOST_HELD + 1];
+    let mut filled = 1;
+    let mut m = 0;
+    for i in 0..k {
+        m = go_on(b, b_turned, &falls, m, band_at(a, a_turned, start + i));
+        filled = fill_to(b, b_turned, &mut falls, filled, m);
+    }
+    m
+}
+
+fn overlap(a: &[u8], a_turned: bool, b: &[u8], b_turned: bool) -> usize {
+    let mut k = a.len().min(b.len());
+    while MOST_HELD < k {
+        if agree(a, a_turned, b, b_turned, k) {
+            return k;
+        }
         k -= 1;
     }
-    k
+    held_at_end(a, a_turned, k, b, b_turned)
 }
+
+fn face_overlap(parts: &Parts, a: usize, b: usize) -> usize {
+    let (c, d) = (parts.part(a / 2), parts.part(b / 2));
+    overlap(c, a % 2 == 1, d, b % 2 == 1)
+}
+
+// Writing
 
 /// What face number i of an order shares with the one before it.
 fn skip_at(parts: &Parts, order: &[usize], i: usize) -> usize {
     if i == 0 {
         0
     } else {
-        overlap(parts, order[i - 1], order[i])
+        face_overlap(parts, order[i - 1], order[i])
     }
 }
 

@@ -135,6 +135,16 @@ fn overlap(a: &[u8], b: &[u8]) -> usize {
         .unwrap_or(0)
 }
 
+/// Ending by ending, the longest first.
+pub fn overlaps(case: &Case, out: &mut [u8]) -> Answer {
+    let faces = case.faces();
+    let each = faces.iter().flat_map(|a| faces.iter().map(move |b| (a, b)));
+    for (byte, (a, b)) in out.iter_mut().zip(each) {
+        *byte = overlap(a, b) as u8;
+    }
+    Answer::Length((faces.len() * faces.len()) as u32)
+}
+
 /// The ribbon of an order of faces.
 fn read(faces: &[Vec<u8>], order: &[usize]) -> Vec<u8> {
     let mut row = faces[order[0]].clone();

@@ -5,6 +5,7 @@ use Rattle.words.specs.Turn.{turned}
 use Rattle.words.proofs.Turning.{turning, turns-ours, turns-only}
 use Rattle.words.proofs.Standing.{is-some-way}
 use Rattle.words.proofs.Overlaps.{overlaps-ours, overlaps-only}
+use Rattle.words.proofs.FallBacks.{holds-ours, holds-only, falls-back-ours, falls-back-only}
 use Rattle.words.proofs.Placing.{finds-ours, finds-only}
 use Rattle.lists.specs.Outcome.{outcome}
 use Rattle.lists.specs.Runs.{codesIn}
@@ -39,6 +40,8 @@ pinned =
     record {
       turning = turns-ours;
       overlaps = overlaps-ours;
+      passes = holds-ours;
+      fall-backs = falls-back-ours;
       places = finds-ours turned;
       codes = codes-checked;
       names = names-checked;
@@ -64,6 +67,8 @@ no-freedom =
     record {
       turning = turns-only;
       overlaps = overlaps-only;
+      passes = holds-only;
+      fall-backs = falls-back-only;
       places = finds-only;
       codes = codes-only;
       names = names-only;

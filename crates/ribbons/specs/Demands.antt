@@ -3,13 +3,14 @@
 use mathlib.Core.Path.{_≡_}
 use mathlib.Core.Bool.{Bool, true}
 use mathlib.Core.List.{List}
-use Prim.Native.Nat.{ℕ, _+_, _*_, _≤_}
+use Prim.Native.Nat.{ℕ, _+_, _*_, _≤_, _<_}
 use lib.IntN.{ℤ}
 use lib.ListN.{length}
 use Rattle.words.specs.Lists.{Each}
 use Rattle.words.specs.Turn.{turned, Turning, Turns}
 use Rattle.words.specs.Stand.{StandsSomeWay}
 use Rattle.words.specs.Overlap.{Overlaps, overlap}
+use Rattle.words.specs.Falling.{Holds, FallsBack, heldAfter, fallBack}
 use Rattle.words.specs.Place.{Place, Finds, placeOf}
 use Rattle.lists.specs.Runs.{codesIn, total, lengths, over}
 use Rattle.lists.specs.Rules.{Band, Printed, ChecksCodes, ChecksNames}
@@ -52,6 +53,8 @@ use Rattle.numbers.specs.Numbers.{Numbers}
 pub record Pinned : Type 0 where
   pub turning : Turns turned
   pub overlaps : Overlaps overlap
+  pub passes : Holds heldAfter
+  pub fall-backs : FallsBack fallBack
   pub places : Finds turned (placeOf turned)
   pub codes : ChecksCodes listOk
   pub names : ChecksNames namesOk
@@ -76,6 +79,10 @@ pub record Pinned : Type 0 where
 pub record NoFreedom : Type 0 where
   pub turning : (turn : List ℕ → List ℕ) → Turns turn → (c : List ℕ) → turn c ≡ turned c
   pub overlaps : (w : List ℕ → List ℕ → ℕ) → Overlaps w → (a b : List ℕ) → w a b ≡ overlap a b
+  pub passes : (held : List ℕ → List ℕ → ℕ → ℕ) → Holds held → (a b : List ℕ) (i : ℕ) → i ≤ length a
+      → held a b i ≡ heldAfter a b i
+  pub fall-backs : (back : List ℕ → ℕ → ℕ) → FallsBack back → (b : List ℕ) (k : ℕ) → 0 < k → k ≤ length b
+      → back b k ≡ fallBack b k
   pub places : (find : List ℕ → List ℕ → Place) → Finds turned find → (c s : List ℕ) → find c s ≡ placeOf turned c s
   pub codes : (ok : List ℕ → List ℕ → Bool) → ChecksCodes ok → (run ls : List ℕ) → ok run ls ≡ listOk run ls
   pub names : (ok : ℕ → List ℕ → List ℕ → Bool) → ChecksNames ok → (count : ℕ) (run ls : List ℕ)
