@@ -12,6 +12,7 @@ use lib.ListN.{length, take, drop, getD, length-append, length-drop, take-append
 use lib.Seq.{take-at, take-suc, take-all, drop-at, drop-cons, getD-at, length-take-le}
 use Rattle.words.specs.Overlap.{Shares, Longest, overlap}
 use Rattle.words.specs.Falling.{Held, FallBack, Follows, Advances}
+use Rattle.words.proofs.Deciding.{not-lt}
 use Rattle.words.proofs.Standing.{between}
 use Rattle.words.proofs.Overlaps.{shares-left, shares-right, overlap-shares, overlap-longest}
 
@@ -128,75 +129,93 @@ held-last a b k m l n h = le-antisymm (overlap-longest a b m above) (h .most (ov
         subst (λ (y : List ℕ). Shares y b (overlap a b)) (sym parts) (overlap-shares a b) in
         shares-end front (omega (arith, length-take-le k (drop (length a - k) a) (omega (arith, long)))) s
 
+-- The first m bands of b, as a text: m are held.
+shares-itself : {b : List ℕ} {m : ℕ} → m ≤ length b → Shares (take m b) b m
+shares-itself {b} {m} l =
+    record {
+      rest = [];
+      shared = take m b;
+      more = drop m b;
+      ending = refl;
+      beginning = sym (take-append-drop m b);
+      size = length-take-le m b l;
+    }
+
+holds-no-more : {b : List ℕ} {m j : ℕ} → m ≤ length b → Shares (take m b) b j → j ≤ m
+holds-no-more {b} {m} l s = omega (arith, shares-left s, length-take-le m b l)
+
+-- All that counts of a text is the match that is held at its end: what that and x hold, the text and x hold.
+pub advances-so : {b : List ℕ} (m x : ℕ) {r : ℕ} → Longest (take m b ++ (x ∷ [])) b r → Advances b m x r
+advances-so {b} m x {r} g t h = record { shares = up (g .shares); most = most }
+  where
+    held : List ℕ
+    held = take m b ++ (x ∷ [])
+
+    parts : h .shares .rest ++ held ≡ t ++ (x ∷ [])
+    parts = cc (ends-so (h .shares), append-assoc (h .shares .rest) (take m b) (x ∷ []))
+
+    up : {o : ℕ} → Shares held b o → Shares (t ++ (x ∷ [])) b o
+    up {o} s = subst (λ (y : List ℕ). Shares y b o) parts (shares-behind (h .shares .rest) s)
+
+    long : length held ≡ m + 1
+    long = omega (arith, length-append (take m b) (x ∷ []), ap length (beginning-held (h .shares)), h .shares .size)
+
+    most : (j : ℕ) → Shares (t ++ (x ∷ [])) b j → j ≤ r
+    most zero s = omega arith
+    most (suc j) s =
+        let l = h .most j (shares-shorter s .0) in
+        let w : Shares (h .shares .rest ++ held) b (suc j) = subst (λ (y : List ℕ). Shares y b (suc j)) (sym parts) s in
+        g .most (suc j) (shares-end (h .shares .rest) (omega (arith, long)) w)
+
 -- a match grows by one band at most
 pub advances-one : {b : List ℕ} {m x r : ℕ} → m ≤ length b → Advances b m x r → r ≤ m + 1
 advances-one {b} {m} {x} {r} l f =
-    omega (arith, shares-left (f (take m b) itself .shares), length-append (take m b) (x ∷ []), long)
-  where
-    long : length (take m b) ≡ m
-    long = length-take-le m b l
+    let g = f (take m b) (record { shares = shares-itself l; most = λ j s. holds-no-more l s }) in
+    omega (arith, shares-left (g .shares), length-append (take m b) (x ∷ []), length-take-le m b l)
 
-    itself : Longest (take m b) b m
-    itself =
-        record {
-          shares = record {
-            rest = [];
-            shared = take m b;
-            more = drop m b;
-            ending = refl;
-            beginning = sym (take-append-drop m b);
-            size = long;
-          };
-          most = λ j s. omega (arith, shares-left s, long);
-        }
-
--- Falling back from m to k: whatever was passed ends with the first k bands of b, and of the longer beginnings with which it
--- ends none is followed by x.
+-- Falling back from m to k: the first m bands end with the first k, and of the longer beginnings with which they end none is
+-- followed by x.
 pub record Falling (b : List ℕ) (m x k : ℕ) : Type 0 where
   pub below : k ≤ m
-  pub shares : (t : List ℕ) → Longest t b m → Shares t b k
-  pub passed : (t : List ℕ) → Longest t b m → (j : ℕ) → k < j → Shares t b j → Follows b j x → ⊥
+  pub ends : Shares (take m b) b k
+  pub passed : (j : ℕ) → k < j → Shares (take m b) b j → Follows b j x → ⊥
 
 module _ {b : List ℕ} {m x : ℕ} where
-  pub falling-none : Falling b m x m
-  falling-none =
-      record { below = omega arith; shares = λ t h. h .shares; passed = λ t h j l s f. omega (arith, h .most j s) }
+  pub falling-none : m ≤ length b → Falling b m x m
+  falling-none l =
+      record { below = omega arith; ends = shares-itself l; passed = λ j p s f. omega (arith, holds-no-more l s) }
 
   module _ {k : ℕ} (c : Falling b m x k) where
     pub falling-more : {f : ℕ} → (Follows b k x → ⊥) → FallBack b k f → Falling b m x f
     falling-more {f} n g =
         record {
           below = omega (arith, g .shorter, c .below);
-          shares = λ t h. shares-up (c .shares t h) (g .ends);
-          passed = λ t h j l s. between-these t h j l s (decLt k j) (decLt j k);
+          ends = shares-up (c .ends) (g .ends);
+          passed = λ j l s. between-these j l s (decLt k j) (decLt j k);
         }
       where
-        between-these : (t : List ℕ) → Longest t b m → (j : ℕ) → f < j → Shares t b j → Dec (k < j) → Dec (j < k)
-            → Follows b j x → ⊥
-        between-these t h j l s (yes p) d = c .passed t h j p s
-        between-these t h j l s (no p) (yes q) =
-            λ w. omega (arith, g .longest j q (shares-down (c .shares t h) (omega arith) s))
-        between-these t h j l s (no p) (no q) = let e : j ≡ k = omega arith in rw e n
+        between-these : (j : ℕ) → f < j → Shares (take m b) b j → Dec (k < j) → Dec (j < k) → Follows b j x → ⊥
+        between-these j l s (yes p) d = c .passed j p s
+        between-these j l s (no p) (yes q) =
+            λ w. omega (arith, g .longest j q (shares-down (c .ends) (omega arith) s))
+        between-these j l s (no p) (no q) = let e : j ≡ k = omega arith in rw e n
+
+    no-longer : (j : ℕ) → Shares (take m b ++ (x ∷ [])) b (suc j) → (j ≤ k) × Follows b j x
+    no-longer j s = let w = shares-shorter s in (not-lt (λ p. c .passed j p (w .0) (w .1)), w .1)
 
     pub falling-hit : Follows b k x → Advances b m x (k + 1)
-    falling-hit f t h =
-        record { shares = shares-longer (c .shares t h) f; most = most }
+    falling-hit f = advances-so m x (record { shares = shares-longer (c .ends) f; most = most })
       where
-        most : (j : ℕ) → Shares (t ++ (x ∷ [])) b j → j ≤ k + 1
+        most : (j : ℕ) → Shares (take m b ++ (x ∷ [])) b j → j ≤ k + 1
         most zero s = omega arith
-        most (suc j) s = go (decLt k j)
-          where
-            go : Dec (k < j) → suc j ≤ k + 1
-            go (yes p) = let w = shares-shorter s in absurd (c .passed t h j p (w .0) (w .1))
-            go (no p) = omega arith
+        most (suc j) s = omega (arith, no-longer j s .0)
 
     pub falling-all : k ≡ 0 → (Follows b k x → ⊥) → Advances b m x 0
-    falling-all e n t h = record { shares = shares-none (t ++ (x ∷ [])) b; most = most }
+    falling-all e n = advances-so m x (record { shares = shares-none (take m b ++ (x ∷ [])) b; most = most })
       where
-        most : (j : ℕ) → Shares (t ++ (x ∷ [])) b j → j ≤ 0
+        most : (j : ℕ) → Shares (take m b ++ (x ∷ [])) b j → j ≤ 0
         most zero s = omega arith
-        most (suc j) s = go (decLt k j) (shares-shorter s)
-          where
-            go : Dec (k < j) → Shares t b j × Follows b j x → suc j ≤ 0
-            go (yes p) w = absurd (c .passed t h j p (w .0) (w .1))
-            go (no p) w = let q : k ≡ j = omega arith in absurd (n (rw q (w .1)))
+        most (suc j) s =
+            let w = no-longer j s in
+            let q : k ≡ j = omega (arith, w .0) in
+            absurd (n (rw q (w .1)))

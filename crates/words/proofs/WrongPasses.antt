@@ -1,17 +1,18 @@
 -- Wrong passes and wrong fall-backs, each written out and caught by its claim: a claim has one outcome, so an impostor is
 -- caught where what it gives is not what ours gives. Passes are instances of one definition, by what is held one band further.
-use mathlib.Core.Path.{_≡_}
-use mathlib.Core.List.{List, [], _∷_, _++_}
+use mathlib.Core.Path.{_≡_, ap, _∙_}
+use mathlib.Core.List.{List, [], _∷_, _++_, append-nil, append-assoc}
 use Prim.Native.Nat.{ℕ, suc, _-_}
 use native.Mathlib.Omega.{arith}
 use lib.Dec.{eqb}
 use lib.ListN.{length, take, getD}
 use Rattle.words.specs.Tests.{pick}
 use Rattle.words.specs.Stand.{standsIn}
-use Rattle.words.specs.Overlap.{Overlaps, overlap}
-use Rattle.words.specs.Falling.{Holds, FallsBack}
+use Rattle.words.specs.Overlap.{Longest, Overlaps, overlap}
+use Rattle.words.specs.Falling.{Holds, FallsBack, heldAfter}
 use Rattle.words.specs.Texts.{text}
-use Rattle.words.proofs.Overlaps.{overlaps-only}
+use Rattle.words.proofs.Overlaps.{longest-only, overlaps-ours, overlaps-only}
+use Rattle.words.proofs.Falling.{held-none, advances-so}
 use Rattle.words.proofs.FallBacks.{holds-only, falls-back-only}
 
 -- Fall-backs: one band shorter, with which the beginning need not end; to nothing, which need not be the longest; to the
@@ -49,7 +50,11 @@ passBy step b m (x ∷ t) = passBy step b (step b m x) t
 abbrev withNext : List ℕ → ℕ → List ℕ → ℕ
 withNext t x b = overlap (t ++ (x ∷ [])) b
 
--- one that starts over where the next band does not follow; one that forgets b where it was held whole; one that keeps it
+-- the right one, what is held and x; one that starts over where the next band does not follow; one that forgets b where it
+-- was held whole; one that keeps it
+abbrev fallOn : List ℕ → ℕ → ℕ → ℕ
+fallOn b m x = withNext (take m b) x b
+
 abbrev startOver : List ℕ → ℕ → ℕ → ℕ
 startOver b m x = pick (eqb (getD b m 0) x) (suc m) (withNext [] x b)
 
@@ -61,6 +66,14 @@ keepWhole b m x = pick (eqb m (length b)) m (withNext (take m b) x b)
 
 abbrev passes : (List ℕ → ℕ → ℕ → ℕ) → List ℕ → List ℕ → ℕ → ℕ
 passes step a b i = passBy step b 0 (take i a)
+
+pub fall-on-is-ours : (a b : List ℕ) (i : ℕ) → passes fallOn a b i ≡ heldAfter a b i
+fall-on-is-ours a b i = from (take i a) [] 0 (held-none a b)
+  where
+    from : (t s : List ℕ) (m : ℕ) → Longest s b m → passBy fallOn b m t ≡ overlap (s ++ t) b
+    from [] s m h = rw append-nil (longest-only s b m h)
+    from (x ∷ t) s m h =
+        from t (s ++ (x ∷ [])) (fallOn b m x) (advances-so m x (overlaps-ours (take m b ++ (x ∷ [])) b) s h) ∙ ap (λ (y : List ℕ). overlap y b) (append-assoc s (x ∷ []) t)
 
 pub not-start-over : Holds (passes startOver) → ⊥
 not-start-over h =

@@ -3,6 +3,7 @@
 use borrow.Author.Needs.{needs}
 use native.Mathlib.Omega.{arith}
 use Rattle.words.specs.Ways.{wayOf}
+use Rattle.words.proofs.Ways.{way-size}
 use Rattle.words.proofs.Deciding.{decides-not, holds, fails, stable}
 use Rattle.words.proofs.Falling.{Falling, falling-none, falling-more, falling-hit, falling-all}
 use Rattle.matching.proofs.falling.go_on.Statement.{statement}
@@ -15,7 +16,9 @@ abbrev μ-loop : tie.MeasureT-loop
 μ-loop b turned falls m x k₀ k = k
 
 loop-holds : tie.Need-loop-holds Inv-loop μ-loop
-loop-holds c = falling-none
+loop-holds c =
+    let s = c .before .before in
+    falling-none (omega (arith, way-size (s .args .turned) (s .args .b .now)))
 
 follows-requires : tie.Need-follows-requires Inv-loop μ-loop
 follows-requires c κs = search needs
