@@ -5,6 +5,7 @@
 //! same data and once with slices. All have to answer, and leave in the lent buffer, what the
 //! reference implementation says.
 
+mod endings;
 mod lists;
 mod proved;
 mod reading;
@@ -20,18 +21,15 @@ use std::process::ExitCode;
 use std::time::{Duration, Instant};
 use work::{Call, Case, Outcome, UNTOUCHED};
 
-const WAYS: [&str; 3] = [
-    "the proved library",
-    "Rust by the same method",
-    "Rust with slices",
-];
+/// A way of doing it, with a name: the proved library's, and then others in Rust.
+type Way = (&'static str, Call);
 
-/// One of the calls: its three ways, what the reference says of it, the room that its result may
-/// need, the lists, and how often each way is timed on each. The best run counts, since whatever
-/// else the machine does only adds time.
+/// One of the calls: its ways, the proved one first, what the reference says of it, the room that
+/// its result may need, the lists, and how often each way is timed on each. The best run counts,
+/// since whatever else the machine does only adds time.
 struct Work {
     name: &'static str,
-    calls: [Call; WAYS.len()],
+    ways: Vec<Way>,
     expected: fn(&OsStr, &Case, usize) -> std::io::Result<Outcome>,
     room: usize,
     cases: Vec<Case>,
@@ -42,7 +40,12 @@ fn works() -> [Work; 4] {
     [
         Work {
             name: "16,384 overlaps",
-            calls: [proved::overlaps, same_method::overlaps, slices::overlaps],
+            ways: vec![
+                ("proved", proved::overlaps),
+                ("same method", same_method::overlaps),
+                ("by endings", endings::overlaps),
+                ("slices", slices::overlaps),
+            ],
             expected: reference::overlaps,
             room: 16_384,
             cases: lists::overlapped(),
@@ -50,7 +53,7 @@ fn works() -> [Work; 4] {
         },
         Work {
             name: "laying out",
-            calls: [proved::lay, same_method::lay, slices::lay],
+            ways: three_ways(proved::lay, same_method::lay, slices::lay),
             expected: reference::lay,
             room: 8_192,
             cases: lists::largest(),
@@ -58,7 +61,7 @@ fn works() -> [Work; 4] {
         },
         Work {
             name: "the sheet",
-            calls: [proved::sheet, same_method::sheet, slices::sheet],
+            ways: three_ways(proved::sheet, same_method::sheet, slices::sheet),
             expected: reference::sheet,
             room: 16_534,
             cases: lists::largest(),
@@ -66,12 +69,20 @@ fn works() -> [Work; 4] {
         },
         Work {
             name: "checking 16,384 bands",
-            calls: [proved::check, same_method::check, slices::check],
+            ways: three_ways(proved::check, same_method::check, slices::check),
             expected: reference::check,
             room: 0,
             cases: lists::checked(),
             runs: 5,
         },
+    ]
+}
+
+fn three_ways(proved: Call, same_method: Call, slices: Call) -> Vec<Way> {
+    vec![
+        ("proved", proved),
+        ("same method", same_method),
+        ("slices", slices),
     ]
 }
 
@@ -115,8 +126,8 @@ fn measure(command: &OsStr) -> Result<(), String> {
 fn compare(work: &Work, case: &Case, command: &OsStr) -> Result<(), String> {
     let expected = (work.expected)(command, case, work.room)
         .map_err(|error| format!("the reference: {error}"))?;
-    for (way, call) in WAYS.iter().zip(work.calls) {
-        if Outcome::of(call, case, work.room) != expected {
+    for (way, call) in &work.ways {
+        if Outcome::of(*call, case, work.room) != expected {
             return Err(format!("{way} and the reference give different results"));
         }
     }
@@ -124,11 +135,11 @@ fn compare(work: &Work, case: &Case, command: &OsStr) -> Result<(), String> {
 }
 
 /// The best time of each way on each list. The ways take turns, so that a busy moment falls on all.
-fn best_times(work: &Work) -> Vec<[Duration; WAYS.len()]> {
-    let mut best = vec![[Duration::MAX; WAYS.len()]; work.cases.len()];
+fn best_times(work: &Work) -> Vec<Vec<Duration>> {
+    let mut best = vec![vec![Duration::MAX; work.ways.len()]; work.cases.len()];
     for _ in 0..work.runs {
         for (case, times) in work.cases.iter().zip(&mut best) {
-            for (call, time) in work.calls.iter().zip(times) {
+            for ((_, call), time) in work.ways.iter().zip(times) {
                 *time = (*time).min(time_of(*call, case, work.room));
             }
         }
@@ -143,20 +154,20 @@ fn time_of(call: Call, case: &Case, room: usize) -> Duration {
     start.elapsed()
 }
 
-/// A ratio is the proved library's time over Rust's.
-fn print_table(work: &Work, times: &[[Duration; WAYS.len()]]) {
-    println!(
-        "{:26} {:>10} {:>15} {:>7} {:>10} {:>7}",
-        work.name, "proved ms", "same method ms", "ratio", "slices ms", "ratio"
-    );
+/// Times in milliseconds. A ratio is the proved library's time over that of the way before it.
+fn print_table(work: &Work, times: &[Vec<Duration>]) {
+    print!("{:26}", format!("{}, ms", work.name));
+    for (number, (way, _)) in work.ways.iter().enumerate() {
+        print!(" {way:>11}{}", if number == 0 { "" } else { "   ratio" });
+    }
+    println!();
     for (case, times) in work.cases.iter().zip(times) {
-        let [proved, same, slices] = times.map(|time| time.as_secs_f64() * 1e3);
-        println!(
-            "{:26} {proved:10.3} {same:15.3} {:7.2} {slices:10.3} {:7.2}",
-            case.name,
-            proved / same,
-            proved / slices
-        );
+        let times: Vec<f64> = times.iter().map(|time| time.as_secs_f64() * 1e3).collect();
+        print!("{:26} {:11.3}", case.name, times[0]);
+        for time in &times[1..] {
+            print!(" {time:11.3} {:7.2}", times[0] / time);
+        }
+        println!();
     }
 }
 
@@ -168,6 +179,7 @@ fn print_peak(name: &str, peak: Option<usize>) {
 fn peak_of_stack(work: &Work, case: &Case) -> usize {
     let mut buffer = vec![UNTOUCHED; work.room];
     stack::peak(&mut || {
-        black_box((work.calls[0])(case, &mut buffer));
+        let (_, proved) = work.ways[0];
+        black_box(proved(case, &mut buffer));
     })
 }

@@ -107,7 +107,7 @@ fn band_at(c: &[u8], turned: bool, i: usize) -> u8 {
 }
 
 /// The last k bands of a way of a are the first k of a way of b.
-fn agree(a: &[u8], a_turned: bool, b: &[u8], b_turned: bool, k: usize) -> bool {
+pub fn agree(a: &[u8], a_turned: bool, b: &[u8], b_turned: bool, k: usize) -> bool {
     let start = a.len() - k;
     for i in 0..k {
         if band_at(a, a_turned, start + i) != band_at(b, b_turned, i) {

@@ -35,8 +35,8 @@ fn go_on(b: &[u8], turned: bool, falls: &[usize], m: usize, x: u8) -> usize
     k + 1
 }
 
-// The row has the fall-backs from up to n bands. Where one more is held than ever before, it gets the fall-back from these m:
-// b goes on from the fall-back from n bands as it goes on from n. The answer is how far the row is filled.
+// The row has the fall-backs from up to n bands. Where m bands are held, one more than ever before, it gets the fall-back from
+// m: the one from n goes on with the band that b has next. The answer is how far the row is filled.
 fn fill_to(b: &[u8], turned: bool, falls: &mut [usize], n: usize, m: usize) -> usize
     requires { ⌜ (0 < n) × (m ≤ n + 1) × (m ≤ length (now b)) × (m < length (now falls)) × FallBacks (wayOf turned (now b)) (now falls) n ⌝ }
     ensures { λ r. ⌜ (n ≤ r) × (m ≤ r) × FallBacks (wayOf turned (now (b .entry))) (now (falls .exit)) r ⌝ }
