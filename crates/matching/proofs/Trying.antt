@@ -7,11 +7,11 @@ use Prim.Native.Nat.{ℕ, zero, suc, _-_, _≤_, _<_}
 use native.Mathlib.Omega.{arith}
 use lib.Dec.{leb}
 use borrow.Author.Tests.{leb-false}
-use lib.ListN.{length, drop}
+use lib.ListN.{length}
 use Rattle.words.specs.Tests.{pick}
 use Rattle.words.specs.Ways.{wayOf}
 use Rattle.words.specs.Overlap.{agrees, overlapFrom, overlap}
-use Rattle.words.specs.Falling.{Held}
+use Rattle.words.specs.Falling.{HeldAtEnd}
 use Rattle.words.proofs.Overlaps.{hit, miss, least-right, overlap-within}
 use Rattle.words.proofs.Ways.{way-size}
 use Rattle.words.proofs.Falling.{held-last}
@@ -51,8 +51,7 @@ module _ (a b : List ℕ) where
         left = sym (miss a b o e) ∙ t .left;
       })
 
-pub tried-last : (p : Bool) (a : List ℕ) (q : Bool) (b : List ℕ) (k r : ℕ) → Tried (wayOf p a) (wayOf q b) k
-    → Held (drop (length a - k) (wayOf p a)) (wayOf q b) k r → r ≡ overlap (wayOf p a) (wayOf q b)
-tried-last p a q b k r t h =
-    let l : overlap (wayOf p a) (wayOf q b) ≤ k = rw (← t .left) (overlap-within (wayOf p a) (wayOf q b) k (t .in-right) .within) in
-    held-last (wayOf p a) (wayOf q b) k r (t .in-left) l (rw (way-size p a) h)
+  pub tried-last : (k r : ℕ) → Tried a b k → HeldAtEnd a b k r → r ≡ overlap a b
+  tried-last k r t h =
+      let l : overlap a b ≤ k = rw (← t .left) (overlap-within a b k (t .in-right) .within) in
+      held-last a b k r (t .in-left) l h

@@ -1,10 +1,10 @@
 // Pattern matching: a pass along one word that holds the longest beginning of another that ends there, and falls back to
 // shorter beginnings where the next band does not follow (document 000, section 2.1).
-ghost use Prim.Native.Nat.{_+_, _-_, _≤_, _<_};
-ghost use lib.ListN.{length, drop};
+ghost use Prim.Native.Nat.{_-_, _≤_, _<_};
+ghost use lib.ListN.{length};
 ghost use Rattle.words.specs.Decides.{Decides};
 ghost use Rattle.words.specs.Ways.{wayOf};
-ghost use Rattle.words.specs.Falling.{Held, FallBacks, Follows, Advances};
+ghost use Rattle.words.specs.Falling.{HeldAtEnd, FallBacks, Filled, Follows, Advances};
 use crate::bands::band_at;
 
 // The most bands that a pass can hold, as many as a code has.
@@ -35,11 +35,11 @@ fn go_on(b: &[u8], turned: bool, falls: &[usize], m: usize, x: u8) -> usize
     k + 1
 }
 
-// The row has the fall-backs from up to n bands. Where m bands are held, one more than ever before, it gets the fall-back from
-// m: the one from n goes on with the band that b has next. The answer is how far the row is filled.
+// A row that is filled up to n bands suffices for a match of m - 1, and then for one of m. Where that is one band more than it
+// has, the fall-back from n goes on with the band that b has next. The answer is how far the row is filled.
 fn fill_to(b: &[u8], turned: bool, falls: &mut [usize], n: usize, m: usize) -> usize
-    requires { ⌜ (0 < n) × (m ≤ n + 1) × (m ≤ length (now b)) × (m < length (now falls)) × FallBacks (wayOf turned (now b)) (now falls) n ⌝ }
-    ensures { λ r. ⌜ (n ≤ r) × (m ≤ r) × FallBacks (wayOf turned (now (b .entry))) (now (falls .exit)) r ⌝ }
+    requires { ⌜ (m ≤ length (now b)) × (m < length (now falls)) × Filled (wayOf turned (now b)) (now falls) n (m - 1) ⌝ }
+    ensures { λ r. ⌜ Filled (wayOf turned (now (b .entry))) (now (falls .exit)) r m ⌝ }
 {
     if m <= n {
         return n;
@@ -52,7 +52,7 @@ fn fill_to(b: &[u8], turned: bool, falls: &mut [usize], n: usize, m: usize) -> u
 // there. The row of fall-backs is filled no further than the match has come.
 pub fn held_at_end(a: &[u8], a_turned: bool, k: usize, b: &[u8], b_turned: bool) -> usize
     requires { ⌜ (k ≤ length (now a)) × (k ≤ 64) ⌝ }
-    ensures { λ r. ⌜ Held (drop (length (now (a .entry)) - k) (wayOf «a_turned» (now (a .entry)))) (wayOf «b_turned» (now (b .entry))) k r ⌝ }
+    ensures { λ r. ⌜ HeldAtEnd (wayOf «a_turned» (now (a .entry))) (wayOf «b_turned» (now (b .entry))) k r ⌝ }
 {
     let start = a.len() - k;
     let mut falls = [0usize; MOST_HELD + 1];

@@ -9,7 +9,7 @@ use native.Mathlib.Nat.{le-antisymm}
 use native.Mathlib.Decide.{decLe}
 use lib.ListN.{length, take, drop, getD, set, length-drop, length-set}
 use lib.Seq.{getD-drop, getD-set-same, getD-set-other, length-take-le}
-use Rattle.words.specs.Falling.{Held, FallBack, FallBacks, Follows, Advances, Holds, FallsBack, heldAfter, fallBack}
+use Rattle.words.specs.Falling.{Held, FallBack, FallBacks, Filled, Follows, Advances, Holds, FallsBack, heldAfter, fallBack}
 use Rattle.words.proofs.Overlaps.{shares-left, overlaps-ours, longest-only}
 use Rattle.words.proofs.Falling.{shares-none, shares-behind, shares-end, held-more}
 
@@ -78,7 +78,7 @@ module _ {b falls : List ℕ} {n : ℕ} (h : FallBacks b falls n) where
   falls-fewer l = record { room = omega (arith, h .room); each = λ j z p. h .each j z (omega arith) }
 
   -- from n bands to one more: the fall-back goes on with the band that follows in b
-  pub falls-more : {m x r : ℕ} → 0 < n → m ≡ n + 1 → m < length falls → Follows b n x → Advances b (getD falls n 0) x r
+  falls-more : {m x r : ℕ} → 0 < n → m ≡ n + 1 → m < length falls → Follows b n x → Advances b (getD falls n 0) x r
       → FallBacks b (set falls m r) m
   falls-more {m} {x} {r} z e o q f = record { room = rw length-set o; each = each }
     where
@@ -91,3 +91,13 @@ module _ {b falls : List ℕ} {n : ℕ} (h : FallBacks b falls n) where
           go : Dec (k ≤ n) → FallBack b k (getD (set falls m r) k 0)
           go (yes d) = rw (getD-set-other falls m k r 0 (λ s. omega arith)) (h .each k y d)
           go (no d) = let s : k ≡ m = omega arith in rw (s, getD-set-same falls m r 0 o) new
+
+-- A row for a match, and for a longer one.
+module _ {b falls : List ℕ} {n k : ℕ} (h : Filled b falls n k) where
+  pub filled-for : {m : ℕ} → m ≤ n → Filled b falls n m
+  filled-for l = record { first = h .first; known = l; row = h .row }
+
+  pub filled-more : {m x r : ℕ} → m ≡ n + 1 → m < length falls → Follows b n x → Advances b (getD falls n 0) x r
+      → Filled b (set falls m r) m m
+  filled-more e o q f =
+      record { first = omega arith; known = omega arith; row = falls-more (h .row) (h .first) e o q f }

@@ -11,7 +11,7 @@ use native.Mathlib.Decide.{decLt}
 use lib.ListN.{length, take, drop, getD, length-append, length-drop, take-append-drop}
 use lib.Seq.{take-at, take-suc, take-all, drop-at, drop-cons, getD-at, length-take-le}
 use Rattle.words.specs.Overlap.{Shares, Longest, overlap}
-use Rattle.words.specs.Falling.{Held, FallBack, Follows, Advances}
+use Rattle.words.specs.Falling.{Held, HeldAtEnd, FallBack, Follows, Advances}
 use Rattle.words.proofs.Deciding.{not-lt}
 use Rattle.words.proofs.Standing.{between}
 use Rattle.words.proofs.Overlaps.{shares-left, shares-right, overlap-shares, overlap-longest}
@@ -104,8 +104,7 @@ module _ (a b : List ℕ) where
       (omega (arith, shares-left (h .shares), length-take-le i a l), omega (arith, shares-right (h .shares)))
 
 -- held at the end of the last k bands of a, where no more are shared: the overlap
-pub held-last : (a b : List ℕ) (k m : ℕ) → k ≤ length a → overlap a b ≤ k → Held (drop (length a - k) a) b k m
-    → m ≡ overlap a b
+pub held-last : (a b : List ℕ) (k m : ℕ) → k ≤ length a → overlap a b ≤ k → HeldAtEnd a b k m → m ≡ overlap a b
 held-last a b k m l n h = le-antisymm (overlap-longest a b m above) (h .most (overlap a b) below)
   where
     front : List ℕ

@@ -73,7 +73,8 @@ fall-on-is-ours a b i = from (take i a) [] 0 (held-none a b)
     from : (t s : List ℕ) (m : ℕ) → Longest s b m → passBy fallOn b m t ≡ overlap (s ++ t) b
     from [] s m h = rw append-nil (longest-only s b m h)
     from (x ∷ t) s m h =
-        from t (s ++ (x ∷ [])) (fallOn b m x) (advances-so m x (overlaps-ours (take m b ++ (x ∷ [])) b) s h) ∙ ap (λ (y : List ℕ). overlap y b) (append-assoc s (x ∷ []) t)
+        let n : Longest (s ++ (x ∷ [])) b (fallOn b m x) = advances-so m x (overlaps-ours (take m b ++ (x ∷ [])) b) s h in
+        from t (s ++ (x ∷ [])) (fallOn b m x) n ∙ ap (λ (y : List ℕ). overlap y b) (append-assoc s (x ∷ []) t)
 
 pub not-start-over : Holds (passes startOver) → ⊥
 not-start-over h =

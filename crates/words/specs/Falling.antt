@@ -2,13 +2,17 @@
 -- beginning of a word b (the state of the automaton), and falls back to a shorter one where the next band does not follow.
 use mathlib.Core.Path.{_≡_}
 use mathlib.Core.List.{List, [], _∷_, _++_}
-use Prim.Native.Nat.{ℕ, _≤_, _<_}
+use Prim.Native.Nat.{ℕ, _-_, _≤_, _<_}
 use lib.ListN.{length, take, drop, getD}
 use Rattle.words.specs.Overlap.{Shares, Longest, overlap}
 
 -- the match held after the first i bands of a: the longest beginning of b that ends there has m bands
 abbrev pub Held : List ℕ → List ℕ → ℕ → ℕ → Type 0
 Held a b i m = Longest (take i a) b m
+
+-- the same at the end of the last k bands of a, whatever stands before them
+abbrev pub HeldAtEnd : List ℕ → List ℕ → ℕ → ℕ → Type 0
+HeldAtEnd a b k m = Held (drop (length a - k) a) b k m
 
 -- the fall-back from the first k bands of b (their longest border): the longest shorter beginning of b with which they end
 -- has f bands
@@ -36,6 +40,12 @@ fallBack b k = overlap (drop 1 (take k b)) b
 pub record FallBacks (b falls : List ℕ) (n : ℕ) : Type 0 where
   pub room : n < length falls
   pub each : (k : ℕ) → 0 < k → k ≤ n → FallBack b k (getD falls k 0)
+
+-- a row that is filled up to n bands, the first one at least, suffices for a match of m
+pub record Filled (b falls : List ℕ) (n m : ℕ) : Type 0 where
+  pub first : 0 < n
+  pub known : m ≤ n
+  pub row : FallBacks b falls n
 
 -- band x follows the first k bands in b
 abbrev pub Follows : List ℕ → ℕ → ℕ → Type 0

@@ -52,9 +52,7 @@ held-at-end-requires c κs =
 
 returns-2 : tie.Need-returns-2 Inv-loop μ-loop
 returns-2 c =
-    let w = c .before .before in
-    let x = w .before .before .before .before .args in
-    tried-last (x .a-turned) (x .a .now) (x .b-turned) (x .b .now) _ _ (w .loop .inv) (c .held-at-end .ensures)
+    tried-last _ _ _ _ (c .before .before .loop .inv) (c .held-at-end .ensures)
 
 pub overlap-spec : {M : Type 1} → statement M
 overlap-spec =

@@ -7,12 +7,12 @@ use Prim.Native.Nat.{_<_}
 use lib.ListN.{length}
 use Rattle.words.specs.Ways.{wayOf}
 use Rattle.words.proofs.Ways.{way-size}
-use Rattle.words.proofs.FallBacks.{falls-fewer, falls-more}
+use Rattle.words.proofs.FallBacks.{falls-fewer, filled-for, filled-more}
 use Rattle.matching.proofs.falling.fill_to.Statement.{statement}
 use Rattle.matching.proofs.falling.fill_to.Tie as tie
 
 returns : tie.Need-returns
-returns c = search needs
+returns c = filled-for (c .before .before .before .pre .2) (omega arith)
 
 mul-go-on : tie.Need-mul-go-on
 mul-go-on c = search needs
@@ -26,8 +26,8 @@ band-at-requires c κs = search needs
 go-on-requires : tie.Need-go-on-requires
 go-on-requires c κs =
     let s = c .before .before .before .before .before in
-    let h = s .pre .4 in
-    let f = h .each (s .args .n) (s .pre .0) (omega arith) in
+    let h = s .pre .2 .row in
+    let f = h .each (s .args .n) (s .pre .2 .first) (omega arith) in
     (omega (arith, f .shorter), falls-fewer h (omega (arith, f .shorter)))
 
 mul-falls : tie.Need-mul-falls
@@ -43,11 +43,9 @@ returns-2 : tie.Need-returns-2
 returns-2 c =
     let s = c .before .before .before .before .before .before in
     let x = s .args in
-    let l : x .n < length (wayOf (x .turned) (x .b .now)) = omega (arith, way-size (x .turned) (x .b .now)) in (
-      omega arith,
-      omega arith,
-      falls-more (s .pre .4) (s .pre .0) (omega arith) (s .pre .3) (l, sym (c .before .band-at .ensures)) (c .go-on .ensures),
-    )
+    let l : x .n < length (wayOf (x .turned) (x .b .now)) = omega (arith, way-size (x .turned) (x .b .now)) in
+    let h = s .pre .2 in
+    filled-more h (omega (arith, h .known)) (s .pre .1) (l, sym (c .before .band-at .ensures)) (c .go-on .ensures)
 
 pub fill-to-spec : {M : Type 1} → statement M
 fill-to-spec =

@@ -49,7 +49,7 @@ fill-to-requires c κs =
     let v = c .before .before .band-at in
     let f = follows-from (x .a-turned) (x .a .now) _ (w .loop .i) (v .result) (omega arith) (v .ensures) in
     let n = passed-next h f (c .before .go-on .ensures) in
-    (h .first, n .0, omega (arith, way-size (x .b-turned) (x .b .now), n .2), omega (arith, n .1), h .row)
+    (omega (arith, way-size (x .b-turned) (x .b .now), n .1), omega (arith, n .0), n .2)
 
 add-i : tie.Need-add-i Inv-loop μ-loop
 add-i c = search needs
@@ -62,16 +62,16 @@ loop-again c =
     let w = c .before .before .before .before .before .before .before in
     let x = w .before .before .before .args in
     let h = w .loop .inv .2 in
-    let g = c .before .fill-to .ensures in
     let v = c .before .before .before .before .band-at in
     let f = follows-from (x .a-turned) (x .a .now) _ (w .loop .i) (v .result) (omega arith) (v .ensures) in
-    (omega arith, search needs, passed-more h f (c .before .before .before .go-on .ensures) (omega (arith, h .first)) (g .1) (g .2))
+    (omega arith, search needs, passed-more h f (c .before .before .before .go-on .ensures) (c .before .fill-to .ensures))
 
 returns : tie.Need-returns Inv-loop μ-loop
 returns c =
     let w = c .before in
-    let e : w .loop .i ≡ w .before .before .before .args .k = omega arith in
-    rw e at (w .loop .inv .2 .held)
+    let x = w .before .before .before .args in
+    let e : w .loop .i ≡ x .k = omega arith in
+    rw (way-size (x .a-turned) (x .a .now)) (rw e at (w .loop .inv .2 .held))
 
 pub held-at-end-spec : {M : Type 1} → statement M
 held-at-end-spec =
