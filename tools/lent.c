@@ -1,5 +1,5 @@
 /* Lent memory through the calls for C, run by tools/link: no buffers at all, buffers of a result's length and of one less, and
-   what stands past a result. What is due comes from document 01. Status 0, or the line of the first thing that isn't so. */
+   what stands past a result. What is due comes from the documents. Status 0, or the line of the first thing that isn't so. */
 #include <stdio.h>
 #include <string.h>
 
@@ -14,7 +14,7 @@ static const uint16_t lengths[] = {4, 4, 4};
 static const uint8_t names[] = "PumpFanLamp";
 static const uint16_t sizes[] = {4, 3, 4};
 static const char sheet[] =
-    "name,way,start,bands\r\nPump,given,2,AABB\r\nFan,turned,0,CAAA\r\nLamp,given,3,ABBB\r\n";
+    "name,way,start,bands,places\r\nPump,given,2,AABB,1\r\nFan,turned,0,CAAA,1\r\nLamp,given,3,ABBB,1\r\n";
 
 static int nothing(void)
 {

@@ -1,6 +1,6 @@
 //! Dropping contained codes.
 
-use crate::place::way_on;
+use crate::place::way_from;
 
 /// The codes that are kept, in list order.
 pub fn kept<'a>(codes: &[&'a [u8]]) -> Vec<&'a [u8]> {
@@ -13,6 +13,6 @@ fn is_dropped(i: usize, codes: &[&[u8]]) -> bool {
     codes.iter().enumerate().any(|(j, other)| {
         let longer = other.len() > code.len();
         let lower = other.len() == code.len() && j < i;
-        (longer || lower) && way_on(other, code).is_some()
+        (longer || lower) && way_from(other, code, 0).is_some()
     })
 }

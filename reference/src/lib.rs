@@ -22,7 +22,7 @@ pub use check::{check_ribbon, Checked};
 pub use join::overlap;
 pub use lay::{lay_ribbon, Laid};
 pub use orders::{read_orders, Read};
-pub use place::{Place, Way};
+pub use place::{how_often, way_from, Place, Way};
 pub use programs::{check_output, ribbon_of, ribbon_output, sheet_output};
 pub use refusal::Refusal;
 pub use sheet::{write_sheet, Sheet};

@@ -19,11 +19,11 @@ pub fn turned(code: &[u8]) -> Vec<u8> {
     code.iter().rev().copied().collect()
 }
 
-/// The smallest start at which either way of a code stands; where both stand
-/// there the way is given.
-pub fn way_on(row: &[u8], code: &[u8]) -> Option<Way> {
-    let given = first_start(row, code).map(Way::Given);
-    let turned = first_start(row, &turned(code)).map(Way::Turned);
+/// The smallest start, from a first one on, at which either way of a code
+/// stands; where both stand there the way is given.
+pub fn way_from(row: &[u8], code: &[u8], first: u32) -> Option<Way> {
+    let given = start_from(row, code, first).map(Way::Given);
+    let turned = start_from(row, &turned(code), first).map(Way::Turned);
     // The first of equals is taken, so given stands before turned.
     [given, turned].into_iter().flatten().min_by_key(|way| {
         let (Way::Given(start) | Way::Turned(start)) = way;
@@ -34,14 +34,23 @@ pub fn way_on(row: &[u8], code: &[u8]) -> Option<Way> {
 /// A place for each code in list order, or the lowest code that has none.
 pub fn places_on(row: &[u8], codes: &[&[u8]]) -> Result<Vec<Place>, u32> {
     let place = |(number, code): (u32, &&[u8])| {
-        let way = way_on(row, code).ok_or(number)?;
+        let way = way_from(row, code, 0).ok_or(number)?;
         Ok(Place { code: number, way })
     };
     (0..).zip(codes).map(place).collect()
 }
 
-/// Codes have at least one band, and rows here at most 16,384.
-fn first_start(row: &[u8], way: &[u8]) -> Option<u32> {
-    let start = row.windows(way.len()).position(|part| part == way)?;
-    Some(start as u32)
+/// The number of starts at which either way of a code stands, each once.
+pub fn how_often(row: &[u8], code: &[u8]) -> usize {
+    let ways = [code.to_vec(), turned(code)];
+    let stands = |part: &&[u8]| ways.iter().any(|way| way == part);
+    row.windows(code.len()).filter(stands).count()
+}
+
+/// Codes have at least one band, and rows here at most 16,384. Behind the row
+/// there is no start.
+fn start_from(row: &[u8], way: &[u8], first: u32) -> Option<u32> {
+    let rest = row.get(first as usize..)?;
+    let start = rest.windows(way.len()).position(|part| part == way)?;
+    Some(first + start as u32)
 }

@@ -3,7 +3,7 @@
 use crate::lay::computed;
 use crate::lend::room;
 use crate::list::{codes_of, names_of};
-use crate::place::{places_on, Way};
+use crate::place::{how_often, places_on, Way};
 use crate::refusal::Refusal;
 
 /// A sheet that was written.
@@ -26,9 +26,9 @@ pub fn write_sheet(
     let names = names_of(names, sizes, codes.len())?;
     let (ribbon, saved) = computed(&codes);
     let places = places_on(&ribbon, &codes).expect("every code stands on its own ribbon");
-    let mut sheet = b"name,way,start,bands\r\n".to_vec();
+    let mut sheet = b"name,way,start,bands,places\r\n".to_vec();
     for ((name, code), place) in names.iter().zip(&codes).zip(places) {
-        sheet.extend(row(name, place.way, code.len(), &ribbon));
+        sheet.extend(row(name, place.way, code, &ribbon));
     }
     room(out, sheet.len())?.copy_from_slice(&sheet);
     Ok(Sheet {
@@ -37,14 +37,15 @@ pub fn write_sheet(
     })
 }
 
-fn row(name: &[u8], way: Way, length: usize, ribbon: &[u8]) -> Vec<u8> {
+fn row(name: &[u8], way: Way, code: &[u8], ribbon: &[u8]) -> Vec<u8> {
     let (word, start) = match way {
         Way::Given(start) => ("given", start),
         Way::Turned(start) => ("turned", start),
     };
-    let bands = &ribbon[start as usize..][..length];
+    let bands = &ribbon[start as usize..][..code.len()];
     let middle = format!(",{word},{start},");
-    [&field(name)[..], middle.as_bytes(), bands, b"\r\n"].concat()
+    let end = format!(",{}\r\n", how_often(ribbon, code));
+    [&field(name)[..], middle.as_bytes(), bands, end.as_bytes()].concat()
 }
 
 /// A name as a field: quoted only if it holds a comma or a quote.

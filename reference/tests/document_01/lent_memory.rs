@@ -100,17 +100,18 @@ fn a_refused_check_leaves_the_records_as_before() {
 
 #[test]
 fn the_sheet_keeps_what_is_past_the_result() {
-    // With CR LF a heading of 22 bytes and a row of 16.
+    // With CR LF a heading of 29 bytes and a row of 18.
     let mut out = marked_bytes(100);
     let sheet = List::named(&[("Fan", "AB")]).sheet(&mut out).unwrap();
-    assert_eq!(sheet.length, 38);
-    assert_eq!(out[..38], *b"name,way,start,bands\r\nFan,given,0,AB\r\n");
-    assert_eq!(out[38..], marked_bytes(100)[38..]);
+    assert_eq!(sheet.length, 47);
+    let expected = b"name,way,start,bands,places\r\nFan,given,0,AB,1\r\n";
+    assert_eq!(out[..47], *expected);
+    assert_eq!(out[47..], marked_bytes(100)[47..]);
 }
 
 #[test]
 fn a_refused_sheet_changes_nothing() {
-    for room in 0..38 {
+    for room in 0..47 {
         let mut out = marked_bytes(room);
         let sheet = List::named(&[("Fan", "AB")]).sheet(&mut out);
         assert_eq!(sheet, Err(refusal(13, 0)));

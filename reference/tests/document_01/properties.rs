@@ -105,10 +105,13 @@ fn a_sheet_read_back_gives_the_fields() {
         let codes = chance.codes(6);
         let names = chance.names(codes.len());
         let list = named(&names, &codes);
-        let ways = expected_ways(&codes, &list.laid().0);
-        let mut expected = vec![["name", "way", "start", "bands"].map(Vec::from).to_vec()];
+        let (ribbon, _) = list.laid();
+        let ways = expected_ways(&codes, &ribbon);
+        let heading = ["name", "way", "start", "bands", "places"];
+        let mut expected = vec![heading.map(Vec::from).to_vec()];
         for i in 0..codes.len() {
-            expected.push(fields(&names[i], &codes[i], ways[i]));
+            let places = expected_places(&codes[i], &ribbon);
+            expected.push(fields(&names[i], &codes[i], ways[i], places));
         }
         let sheet = list.sheet_bytes();
         let rows: Vec<cut::Fields> = cut::rows(&sheet).map(Option::unwrap).collect();
@@ -116,12 +119,12 @@ fn a_sheet_read_back_gives_the_fields() {
     }
 }
 
-fn fields(name: &str, code: &str, way: Option<Way>) -> Vec<Vec<u8>> {
+fn fields(name: &str, code: &str, way: Option<Way>, places: usize) -> Vec<Vec<u8>> {
     let (word, start, bands) = match way.expect("the code stands on its ribbon") {
         Way::Given(start) => ("given", start, code.to_string()),
         Way::Turned(start) => ("turned", start, turned(code)),
     };
-    [name, word, &start.to_string(), &bands]
+    [name, word, &start.to_string(), &bands, &places.to_string()]
         .map(Vec::from)
         .to_vec()
 }

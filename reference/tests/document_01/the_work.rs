@@ -7,8 +7,8 @@ use std::path::PathBuf;
 use std::process::{Command, Output, Stdio};
 
 const EXAMPLE: &[u8] = b"name,code\r\nPump,AABB\r\nFan,AAAC\r\nLamp,ABBB\r\n";
-const SHEET: &[u8] = b"name,way,start,bands\r\n\
-    Pump,given,2,AABB\r\nFan,turned,0,CAAA\r\nLamp,given,3,ABBB\r\n";
+const SHEET: &[u8] = b"name,way,start,bands,places\r\n\
+    Pump,given,2,AABB,1\r\nFan,turned,0,CAAA,1\r\nLamp,given,3,ABBB,1\r\n";
 
 #[test]
 fn the_worked_example() {
@@ -100,9 +100,9 @@ fn the_longest_names_and_128_codes_have_room() {
     let rows: String = (0..128).map(row).collect();
     let list = format!("name,code\r\n{rows}");
     let expected: String = (0..128)
-        .map(|i| format!("{},given,0,{band}\r\n", field(i)))
+        .map(|i| format!("{},given,0,{band},1\r\n", field(i)))
         .collect();
-    let expected = format!("name,way,start,bands\r\n{expected}");
+    let expected = format!("name,way,start,bands,places\r\n{expected}");
     assert_eq!(sheet_output(list.as_bytes()), expected.as_bytes());
 }
 

@@ -110,3 +110,10 @@ pub fn expected_ways(codes: &[String], row: &str) -> Vec<Option<Way>> {
     let way = |code| (0..row.len()).find_map(|start| at(code, start));
     codes.iter().map(way).collect()
 }
+
+/// The number of starts at which a way stands.
+pub fn expected_places(code: &str, row: &str) -> usize {
+    let ways = [code.to_string(), turned(code)];
+    let stands = |start: &usize| ways.iter().any(|way| stands(row, *start, way));
+    (0..row.len()).filter(stands).count()
+}

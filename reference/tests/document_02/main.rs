@@ -8,5 +8,6 @@ mod chance;
 #[allow(dead_code)]
 mod common;
 
+mod m101_how_often;
 mod m105_one_pass;
 mod m112_number_14;

@@ -3,7 +3,7 @@
 use std::io::Write;
 use std::process::{Command, Output, Stdio};
 
-const LIST: &str = "list ABBC 2,2 ab 1,1 ABC 3,2,60 : lay,ribbon,3,1";
+const LIST: &str = "list ABBC 2,2 ab 1,1 ABC 3,2,70 : lay,ribbon,3,1";
 
 fn trials(words: &[&str], file: &str) -> Output {
     let mut child = Command::new(env!("CARGO_BIN_EXE_trials"))

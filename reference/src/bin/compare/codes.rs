@@ -90,6 +90,28 @@ pub fn at_the_bound(chance: &mut Chance) -> Vec<Code> {
     codes
 }
 
+/// Long codes that repeat a short word and share little, and short parts of
+/// them: these stand at many starts, some either way.
+pub fn at_many_starts(chance: &mut Chance) -> Vec<Code> {
+    let mut letters: Vec<u8> = (b'A'..=b'Z').collect();
+    chance.shuffle(&mut letters);
+    let (inside, ends) = letters.split_at(2);
+    let period = chance.one_of(&[1, 1, 2, 3]);
+    let run = chance.some_of(inside, period).repeat(MOST_BANDS);
+    let long = |chance: &mut Chance| {
+        let length = chance.between(30, MOST_BANDS - 2);
+        let [first, last] = [(); 2].map(|_| chance.one_of(ends));
+        [&[first], &run[..length], &[last]].concat()
+    };
+    let mut codes: Vec<Code> = (0..chance.between(1, 24)).map(|_| long(chance)).collect();
+    for _ in 0..chance.between(1, 6) {
+        let length = chance.between(1, 6);
+        codes.push(window(chance, &run, length));
+    }
+    chance.shuffle(&mut codes);
+    codes
+}
+
 /// Codes of which most are made from earlier ones.
 fn family(chance: &mut Chance, count: usize, longest: usize) -> Vec<Code> {
     let letters = letters(chance);

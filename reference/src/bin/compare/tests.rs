@@ -1,6 +1,6 @@
 //! The generator makes what it says, and no fault goes unseen in the counts.
 
-use crate::codes::{few, turned, Code, MOST_CODES};
+use crate::codes::{at_many_starts, few, turned, Code, MOST_CODES};
 use crate::damage::DAMAGES;
 use crate::faults::{numbers_for, put};
 use crate::inputs::{input, Input};
@@ -294,6 +294,20 @@ fn limits_are_tried_on_both_sides() {
     let lengths = (0..100).map(|number| limits::file_bytes(&mut Chance::of(6, number)).len());
     let lengths: BTreeSet<usize> = lengths.collect();
     assert!(lengths.is_superset(&[16_383, 16_384, 16_385].into()));
+}
+
+#[test]
+fn codes_stand_at_up_to_a_thousand_starts_and_more() {
+    let digits = |number| {
+        let mut chance = Chance::of(9, number);
+        let codes = at_many_starts(&mut chance);
+        let list = order_list(&mut chance, &codes);
+        let sheet = String::from_utf8(reference::sheet_output(&list)).unwrap();
+        let places = |row: &str| row.rsplit(',').next().map(str::len);
+        sheet.lines().skip(1).filter_map(places).max().unwrap()
+    };
+    let digits: BTreeSet<usize> = (0..60).map(digits).collect();
+    assert_eq!(digits, [2, 3, 4].into());
 }
 
 #[test]

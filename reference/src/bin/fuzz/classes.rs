@@ -41,7 +41,8 @@ pub fn class(trial: &Trial) -> Class {
     (trial.program, outcome_of(expected), sizes.map(size))
 }
 
-/// The row, the difference or the code of an answer in one line; 0 of others.
+/// The row, the difference or the code of an answer in one line, the last
+/// number of places of a sheet; 0 of a ribbon.
 fn last_number(expected: &[u8]) -> usize {
     let text = String::from_utf8_lossy(expected);
     let last = text.trim_end().rsplit([',', '-']).next();

@@ -9,7 +9,7 @@ use reference::{Checked, Place, Read, Refusal, Way};
 
 /// The rows that the programs' outputs are written into.
 const RIBBON_ROW: usize = 8_194;
-pub const SHEET_ROW: usize = 16_534;
+pub const SHEET_ROW: usize = 17_181;
 const CHECK_ROW: usize = 32;
 
 /// The records that a check hands back by value, and what they are at first.

@@ -4,7 +4,7 @@
 pub type Fault = &'static str;
 
 /// A field's bytes at most, and a lent buffer's.
-pub const MOST_BYTES: usize = 16_640;
+pub const MOST_BYTES: usize = 17_408;
 /// Likewise of numbers.
 pub const MOST_NUMBERS: usize = 160;
 
@@ -16,7 +16,7 @@ pub fn bytes(field: &str) -> Result<Vec<u8>, Fault> {
         let (byte, after) = one_byte(after)?;
         bytes.resize(bytes.len() + times, byte);
         if bytes.len() > MOST_BYTES {
-            return Err("a field of over 16,640 bytes");
+            return Err("a field of over 17,408 bytes");
         }
         rest = after;
     }
@@ -72,7 +72,7 @@ fn times(text: &str) -> Result<(usize, &str), Fault> {
     let (times, after) = inside.split_once('}').ok_or("`{` without `}`")?;
     match decimal(times)? as usize {
         times if times <= MOST_BYTES => Ok((times, after)),
-        _ => Err("a field of over 16,640 bytes"),
+        _ => Err("a field of over 17,408 bytes"),
     }
 }
 

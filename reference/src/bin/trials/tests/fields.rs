@@ -23,8 +23,8 @@ fn fields_of_bytes() {
     for (field, expected) in fields {
         assert_eq!(bytes(field).as_deref(), Ok(expected), "{field}");
     }
-    assert_eq!(bytes("{16640}A").unwrap(), [b'A'; 16_640]);
-    assert_eq!(bytes(&"A".repeat(16_640)).unwrap(), [b'A'; 16_640]);
+    assert_eq!(bytes("{17408}A").unwrap(), [b'A'; 17_408]);
+    assert_eq!(bytes(&"A".repeat(17_408)).unwrap(), [b'A'; 17_408]);
 }
 
 #[test]
@@ -51,13 +51,13 @@ fn wrong_fields_of_bytes() {
         "{2}{3}A",
         "{3}\\",
         "A{",
-        "{16641}A",
-        "{16640}AA",
+        "{17409}A",
+        "{17408}AA",
         "{99999999999}A",
     ] {
         assert!(bytes(field).is_err(), "{field}");
     }
-    assert!(bytes(&"A".repeat(16_641)).is_err());
+    assert!(bytes(&"A".repeat(17_409)).is_err());
 }
 
 #[test]
@@ -77,7 +77,7 @@ fn fields_of_numbers() {
     assert_eq!(numbers("128x64").unwrap(), [64; 128]);
     assert_eq!(numbers("159x1,1").unwrap(), [1; 160]);
     assert_eq!(rooms("4x0"), Ok([0; 4]));
-    assert_eq!(rooms("8192,128,16534"), Ok([8_192, 128, 16_534]));
+    assert_eq!(rooms("8192,128,17181"), Ok([8_192, 128, 17_181]));
     assert_eq!(decimal("4294967295"), Ok(4_294_967_295));
 }
 

@@ -168,9 +168,9 @@ fn ribbons_that_are_supplied_and_rooms() {
         ribbons.insert(change(&laid, &list.ribbon));
         let least = [laid.len(), list.lengths.len(), sheet];
         for (i, seen) in rooms.iter_mut().enumerate() {
-            seen.insert(match list.rooms[i] {
-                8_192 | 128 => 1_000,
-                room => room as i64 - least[i] as i64,
+            seen.insert(match (i, list.rooms[i]) {
+                (0, 8_192) | (1, 128) => 1_000,
+                (_, room) => room as i64 - least[i] as i64,
             });
         }
     }
@@ -192,7 +192,7 @@ fn results(list: &List) -> (Vec<u8>, usize) {
     let mut ribbon = vec![0; 8_192];
     let laid = lay_ribbon(&list.bands, &list.lengths, &mut ribbon).unwrap();
     ribbon.truncate(laid.length);
-    let (names, out) = ((&list.names, &list.sizes), &mut [0; 16_534]);
+    let (names, out) = ((&list.names, &list.sizes), &mut [0; 17_181]);
     let sheet = write_sheet(&list.bands, &list.lengths, names.0, names.1, out);
     (ribbon, sheet.unwrap().length)
 }

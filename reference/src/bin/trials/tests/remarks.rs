@@ -62,7 +62,7 @@ fn every_case_has_a_remark_that_is_right() {
     assert!(faults.is_empty(), "{}", faults.join("\n"));
 }
 
-const LIST: &str = "list ABBC 2,2 ab 1,1 ABC 3,2,60";
+const LIST: &str = "list ABBC 2,2 ab 1,1 ABC 3,2,70";
 
 #[test]
 fn right_remarks() {
@@ -71,7 +71,7 @@ fn right_remarks() {
         "lay,ribbon,3,1; check,held,0; case,1,list",
         "check,held,0; lay,ribbon,3",
         "found,128,0 given 0;1 given 1,kept,126",
-        "rows,60,name,way",
+        "rows,70,name,way",
     ] {
         let file = format!("= a\nmake ties 1 1\n{LIST} : {remark}\n");
         assert!(faults(&file).is_empty(), "{remark}");

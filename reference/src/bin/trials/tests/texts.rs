@@ -70,7 +70,7 @@ fn lent_buffers_before_a_call() {
             place(1_002, Way::Given(2_002))
         ]
     );
-    assert_eq!(lent::<u8>(65_535).len(), 16_640);
+    assert_eq!(lent::<u8>(65_535).len(), 17_408);
     assert_eq!(lent::<u16>(161).len(), 160);
     assert_eq!(lent::<Place>(131).len(), 130);
 }
@@ -125,7 +125,7 @@ fn records_are_said_or_fed_as_three_numbers() {
 /// Document 01's example.
 #[test]
 fn the_text_of_a_list() {
-    let line = "list AABBAAACABBB 3x4 PumpFanLamp 4,3,4 CAAABBB 7,4,80 : lay,ribbon";
+    let line = "list AABBAAACABBB 3x4 PumpFanLamp 4,3,4 CAAABBB 7,4,93 : lay,ribbon";
     let expected = "case,4,list
 codes,12,AABBAAACABBB
 lengths,3,4 4 4
@@ -139,8 +139,8 @@ records,4,0 given 2;1 turned 0;2 given 3,kept,1
 places,held,0
 found,128,0 given 2;1 turned 0;2 given 3,kept,125
 only,held,0
-sheet,written,79,5
-rows,80,name,way,start,bands\\r\\nPump,given,2,AABB\\r\\nFan,turned,0,CAAA\\r\\nLamp,given,3,ABBB\\r\\n,kept,1
+sheet,written,92,5
+rows,93,name,way,start,bands,places\\r\\nPump,given,2,AABB,1\\r\\nFan,turned,0,CAAA,1\\r\\nLamp,given,3,ABBB,1\\r\\n,kept,1
 ";
     assert_eq!(said_of(line), expected);
 }
@@ -187,7 +187,7 @@ lengths,2,4 4,kept,0
 names,9,PumpFan,kept,2
 sizes,3,4 3,kept,1
 ribbon_output,8194,CAAABB\\r\\n,kept,8186
-sheet_output,16534,name,way,start,bands\\r\\nPump,given,2,AABB\\r\\nFan,turned,0,CAAA\\r\\n,kept,16474
+sheet_output,17181,name,way,start,bands,places\\r\\nPump,given,2,AABB,1\\r\\nFan,turned,0,CAAA,1\\r\\n,kept,17110
 ";
     assert_eq!(said_of(line), expected);
     let refused = "case,4,file
@@ -198,7 +198,7 @@ lengths,1,,kept,1
 names,1,,kept,1
 sizes,1,,kept,1
 ribbon_output,8194,refused,4,0\\r\\n,kept,8181
-sheet_output,16534,refused,4,0\\r\\n,kept,16521
+sheet_output,17181,refused,4,0\\r\\n,kept,17168
 ";
     assert_eq!(said_of("file - 4x1"), refused);
 }
