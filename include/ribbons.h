@@ -29,7 +29,7 @@ extern "C" {
 #define RIBBONS_MOST_BANDS 8192           /* of all codes of a list together, and of a computed ribbon */
 #define RIBBONS_MOST_NAME_BYTES 3072      /* of all names of a list together */
 #define RIBBONS_MOST_SUPPLIED_BANDS 16384 /* of a supplied ribbon: one that has more is refused */
-#define RIBBONS_MOST_SHEET_BYTES 16534    /* of a sheet */
+#define RIBBONS_MOST_SHEET_BYTES 17181    /* of a sheet */
 
 /* The numbers of refusals. 14 is retired: no call answers it, and it is not to be used again. */
 #define RIBBONS_LONG_FILE 1       /* more than 16,384 bytes in an order list */
@@ -97,14 +97,15 @@ struct ribbons_laid ribbons_lay_ribbon(
     uint8_t *ribbon, size_t ribbon_count);
 
 /* Checks a supplied ribbon against a list. It writes nothing. Refuses by 12, by 15, then by 8 for a byte of the ribbon.
-   Stack, measured: 18,840 bytes. */
+   Stack, measured: 20,392 bytes. */
 struct ribbons_checked ribbons_check_ribbon(
     const uint8_t *bands, size_t bands_count,
     const uint16_t *lengths, size_t lengths_count,
     const uint8_t *ribbon, size_t ribbon_count);
 
-/* Lays out a list with names and writes its sheet to the beginning of out: the heading row name,way,start,bands, then a
-   row for each code in list order, each ending in CR LF. Refuses by 12, then by 13. Stack, measured: 22,008 bytes. */
+/* Lays out a list with names and writes its sheet to the beginning of out: the heading row name,way,start,bands,places,
+   then a row for each code in list order, each ending in CR LF. Its places are the number of starts at which it stands
+   either way, each start once. Refuses by 12, then by 13. Stack, measured: 26,728 bytes. */
 struct ribbons_sheet ribbons_write_sheet(
     const uint8_t *bands, size_t bands_count,
     const uint16_t *lengths, size_t lengths_count,

@@ -10,7 +10,7 @@ pub const MOST_CODES: usize = 128;
 pub const MOST_BANDS: usize = 8192;
 pub const MOST_NAME_BYTES: usize = 3072;
 pub const MOST_SUPPLIED_BANDS: usize = 16384;
-pub const MOST_SHEET_BYTES: usize = 16534;
+pub const MOST_SHEET_BYTES: usize = 17181;
 
 // The numbers of refusals. 14 is retired: no call answers it, and it is not to be used again.
 pub const LONG_FILE: u8 = 1;

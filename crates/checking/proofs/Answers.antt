@@ -37,7 +37,7 @@ difference a b = by (is-le b a)
 
 are-records : (i : ℕ) (cs : List (List ℕ)) (row : List ℕ) → AreRecords i cs row (recordsFrom i cs row)
 are-records i [] row = tt
-are-records i (c ∷ cs) row = (refl, finds-ours turned c row, are-records (suc i) cs row)
+are-records i (c ∷ cs) row = (refl, finds-ours turned 0 c row, are-records (suc i) cs row)
 
 module _ (run ls row : List ℕ) (records : List PlaceRecord) where
   abbrev cs : List (List ℕ)

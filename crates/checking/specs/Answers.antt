@@ -83,7 +83,7 @@ less a b = pick (leb b a) (pos (a - b)) (negsuc (b - a - 1))
 -- the records of the codes, of which the first has the number i
 abbrev pub recordsFrom : ℕ → List (List ℕ) → List ℕ → List PlaceRecord
 recordsFrom i [] row = []
-recordsFrom i (c ∷ cs) row = record { code = i; place = placeOf turned c row } ∷ recordsFrom (suc i) cs row
+recordsFrom i (c ∷ cs) row = record { code = i; place = placeOf turned 0 c row } ∷ recordsFrom (suc i) cs row
 
 module _ (run ls row : List ℕ) where
   -- the refusals of a list or a ribbon

@@ -28,7 +28,7 @@ Misses turn check = (cs : List (List ℕ)) (row : List ℕ) → IsMissing turn c
 -- Computed: the first of the codes has the number i.
 abbrev pub missingFrom : (List ℕ → List ℕ) → ℕ → List (List ℕ) → List ℕ → Missing
 missingFrom turn i [] row = none-missing
-missingFrom turn i (c ∷ cs) row = elim (found (placeOf turn c row)) [
+missingFrom turn i (c ∷ cs) row = elim (found (placeOf turn 0 c row)) [
   | true ↦ missingFrom turn (suc i) cs row
   | false ↦ missing i
 ]

@@ -1,100 +1,215 @@
--- The search for a place. At one start the bands are compared from the left: while all bands passed are alike, the test of
--- what is left is the test of the whole. Start by start the word stands at none of those passed. The place is then the
--- first start as given, or the first start turned where that is smaller.
-use mathlib.Core.Path.{_≡_, refl, subst, _∙_}
-use mathlib.Core.Bool.{Bool}
+-- The place, by one pass for both ways: at each band the match of each way that is open there. Starts that are passed over
+-- because their bands add up otherwise are starts at which no way stands.
+use mathlib.Core.Path.{_≡_, refl, sym, subst, _∙_}
+use mathlib.Core.Logic.{inl, inr}
+use mathlib.Core.Bool.{Bool, true, false}
 use mathlib.Core.List.{List}
-use Prim.Native.Nat.{ℕ, suc, _+_, _≤_, _<_}
-use native.Mathlib.Nat.{add-zero}
-use native.Mathlib.Numerals.{add-one}
+use Prim.Native.Nat.{ℕ, _+_, _-_, _≤_, _<_}
 use native.Mathlib.Omega.{arith}
-use borrow.Author.Tests.{eq-eqb, ne-eqb}
-use lib.ListN.{length, drop, getD, drop-of-length-le}
-use lib.Seq.{drop-cons}
+use lib.Dec.{leb}
+use lib.ListN.{length, take, drop, getD, length-drop}
+use lib.Seq.{take-all}
+use Rattle.words.specs.Tests.{pick}
 use Rattle.words.specs.Decides.{Decides, yes, no}
-use Rattle.words.specs.Stand.{StandsAt, begins}
-use Rattle.words.specs.Place.{FirstStart, given-at, turned-at, nowhere}
-use Rattle.words.specs.Place.{Neither, IsPlace, is-given, is-turned, is-nowhere}
-use Rattle.words.proofs.Deciding.{holds, fails, is-lt}
-use Rattle.words.proofs.Standing.{stands-length}
-use Rattle.words.proofs.Placing.{is-standing-at}
+use Rattle.words.specs.Stand.{StandsAt, StandsHere, begins}
+use Rattle.words.specs.Falling.{FallBack, Advances}
+use Rattle.words.specs.Place.{given-at, turned-at, nowhere, IsPlace, is-given, is-turned, is-nowhere, FirstStart}
+use Rattle.words.proofs.Deciding.{holds, fails, is-le, is-lt}
+use Rattle.words.proofs.Placing.{start-within, is-standing-at}
+use Rattle.words.proofs.Falling.{advances-one}
+use Rattle.words.proofs.Starting.{end-within, Open, open-none, open-in, open-whole, open-to-come, open-more, open-match}
+use Rattle.words.proofs.Starting.{open-next, open-fall}
+use Rattle.lists.specs.Runs.{total}
+use Rattle.finding.specs.Windows.{Skipped}
+use Rattle.finding.proofs.Adding.{stands-adds}
 
--- at the start i the first j bands are alike
-pub record Alike (c s : List ℕ) (i j : ℕ) : Type 0 where
-  pub room : i + length c ≤ length s
-  pub passed : j ≤ length c
-  pub left : begins c (drop i s) ≡ begins (drop j c) (drop (i + j) s)
+-- At the band e the matches of both ways are open, g bands as given and t turned; and no way stands from k on before p.
+pub record Both (turn : List ℕ → List ℕ) (c s : List ℕ) (k p e g t : ℕ) : Type 0 where
+  pub given : Open c s k e g
+  pub turned : Open (turn c) s k e t
+  pub clear : (h : ℕ) → k ≤ h → h < p → StandsHere turn c s h → ⊥
 
-module _ (c s : List ℕ) (i : ℕ) where
-  pub alike-none : i + length c ≤ length s → Alike c s i 0
-  alike-none l = record { room = l; passed = omega arith; left = rw add-zero }
+-- the longer of two matches
+pub longer-of : {g t r : ℕ} → r ≡ pick (leb g t) t g → (g ≤ r) × (t ≤ r) × ((e : ℕ) → g ≤ e → t ≤ e → r ≤ e)
+longer-of {g} {t} {r} q = by (is-le g t) q
+  where
+    by : {b : Bool} → Decides (g ≤ t) b → r ≡ pick b t g → (g ≤ r) × (t ≤ r) × ((e : ℕ) → g ≤ e → t ≤ e → r ≤ e)
+    by (yes l) f = (omega arith, omega arith, λ e a b. omega arith)
+    by (no l) f = (omega arith, omega arith, λ e a b. omega arith)
 
-  module _ (j : ℕ) (h : Alike c s i j) where
-    decided : Decides (StandsAt c s i) (begins c (drop i s))
-    decided = is-standing-at c (omega (arith, h .room)) refl
+module _ {turn : List ℕ → List ℕ} {c s : List ℕ} (as-long : length (turn c) ≡ length c) {k : ℕ} where
+  pub both-at : {e p : ℕ} → e ≤ length s → e ≤ p → ((h : ℕ) → k ≤ h → h < p → StandsHere turn c s h → ⊥)
+      → Both turn c s k p e 0 0
+  both-at l m n =
+      record {
+        given = open-none l (λ h a b x. n h a (omega arith) (inl x));
+        turned = open-none l (λ h a b x. n h a (omega arith) (inr x));
+        clear = n;
+      }
 
-    pub alike-more : j < length c → getD c j 0 ≡ getD s (i + j) 0 → Alike c s i (j + 1)
-    alike-more l e =
-        let m : i + j < length s = omega (arith, h .room) in
-        let n : suc (i + j) ≡ i + (j + 1) = omega arith in
+  module _ {p e g t : ℕ} (b : Both turn c s k p e g t) where
+    -- a start before both matches is passed; a later one that does not fit is none either
+    pub both-skip : {q r y z : ℕ} → r ≡ pick (leb g t) t g → y ≡ total c → z ≡ total (turn c)
+        → Skipped s (length c) y z p (e - r) q → Both turn c s k q e g t
+    both-skip {q} {r} w u v f =
+        record { given = b .given; turned = b .turned; clear = λ h a l. by h a l (is-lt h p) (is-lt h (e - r)) }
+      where
+        by : (h : ℕ) → k ≤ h → h < q → {y z : Bool} → Decides (h < p) y → Decides (h < e - r) z → StandsHere turn c s h → ⊥
+        by h a l (yes d) o x = b .clear h a d x
+        by h a l (no d) (yes o) (inl x) = b .given .none-before h a (omega (arith, longer-of {g = g} {t = t} w .0)) x
+        by h a l (no d) (yes o) (inr x) = b .turned .none-before h a (omega (arith, longer-of {g = g} {t = t} w .1)) x
+        by h a l (no d) (no o) (inl x) = f .not-given h (omega arith) (omega arith) l (rw u (stands-adds refl x))
+        by h a l (no d) (no o) (inr x) = f .not-turned h (omega arith) (omega arith) l (rw v (stands-adds as-long x))
+
+-- The search from the start k on: at the start i the first j bands are alike, m bands turned end there.
+pub record Seeking (turn : List ℕ → List ℕ) (c s : List ℕ) (k p i j m : ℕ) : Type 0 where
+  pub both : Both turn c s k p (i + j) j m
+  pub given-from : k ≤ i
+  pub turned-from : k + m ≤ i + j
+
+module _ {turn : List ℕ → List ℕ} {c s : List ℕ} (as-long : length (turn c) ≡ length c) {k : ℕ} where
+  pub seeking-at : {p : ℕ} → p ≤ length s → k ≤ p → ((h : ℕ) → k ≤ h → h < p → StandsHere turn c s h → ⊥)
+      → Seeking turn c s k p p 0 0
+  seeking-at l m n =
+      record { both = both-at as-long (omega arith) (omega arith) n; given-from = m; turned-from = omega arith }
+
+  pub seeking-none : k ≤ length s → Seeking turn c s k k k 0 0
+  seeking-none l = seeking-at l (omega arith) (λ h a b. absurd (omega arith))
+
+  module _ {p i j m : ℕ} (q : Seeking turn c s k p i j m) where
+    pub seeking-in : (m ≤ length c) × (m ≤ i + j) × (i + j ≤ length s)
+    seeking-in =
+        let o = q .both .turned in
+        (omega (arith, as-long, open-in o .0), open-in o .1, o .within)
+
+    pub seeking-skip : {w r y z : ℕ} → r ≡ pick (leb j m) m j → y ≡ total c → z ≡ total (turn c)
+        → Skipped s (length c) y z p (i + j - r) w → Seeking turn c s k w i j m
+    seeking-skip f u v g =
+        record { both = both-skip as-long (q .both) f u v g; given-from = q .given-from; turned-from = q .turned-from }
+
+    -- on to a start behind all bands compared
+    pub seeking-jump : p ≤ length s → i + j ≤ p → Seeking turn c s k p p 0 0
+    seeking-jump l m = seeking-at l (omega (arith, q .given-from)) (q .both .clear)
+
+    pub seeking-given : length c ≤ j → FirstStart turn k c s i
+    seeking-given l =
+        let o = q .both .given in
+        let w = open-whole o (omega (arith, open-in o .0)) in
+        let e : i + j - length c ≡ i = omega (arith, open-in o .0) in
         record {
-          room = h .room;
-          passed = omega arith;
-          left = h .left ∙ rw (drop-cons c j 0 l, drop-cons s (i + j) 0 m, eq-eqb _ _ e, n, add-one);
+          from-on = q .given-from;
+          stands = λ f. inl (subst (StandsAt c s) e (w .1));
+          none-before = λ h a b. record {
+            not-given = o .none-before h a (omega arith);
+            not-turned = q .both .turned .none-before h a (omega (arith, seeking-in .0));
+          };
         }
 
-    pub alike-stop : j < length c → (getD c j 0 ≡ getD s (i + j) 0 → ⊥) → StandsAt c s i → ⊥
-    alike-stop l e =
-        let m : i + j < length s = omega (arith, h .room) in
-        fails decided (h .left ∙ rw (drop-cons c j 0 l, drop-cons s (i + j) 0 m, ne-eqb _ _ e))
+    module _ (l : j < length c) where
+      pub seeking-turned : m ≡ length c → FirstStart turn k c s (i + j - length c)
+      seeking-turned f =
+          let w = open-whole (q .both .turned) (f ∙ sym as-long) in
+          record {
+            from-on = omega (arith, q .turned-from);
+            stands = λ d. inr (rw as-long at (w .1));
+            none-before = λ h a b. record {
+              not-given = q .both .given .none-before h a (omega arith);
+              not-turned = q .both .turned .none-before h a (omega arith);
+            };
+          }
 
-    pub alike-all : length c ≤ j → StandsAt c s i
-    alike-all l = holds decided (h .left ∙ rw (drop-of-length-le c l))
+      module _ (n : m ≡ length c → ⊥) where
+        pub seeking-nowhere : i + j ≡ length s → FirstStart turn k c s (length s + 1)
+        seeking-nowhere e =
+            record {
+              from-on = omega (arith, q .given-from);
+              stands = λ d. absurd (omega arith);
+              none-before = λ h a b. record {
+                not-given = λ x. q .both .given .none-before h a (omega (arith, end-within x)) x;
+                not-turned = λ x. omega (arith, as-long, end-within x, to-come h a x);
+              };
+            }
+          where
+            to-come : (h : ℕ) → k ≤ h → StandsAt (turn c) s h → i + j < h + length (turn c)
+            to-come = open-to-come (q .both .turned) (λ f. n (f ∙ as-long))
 
--- the starts before i are passed: c stands at none of them
-pub record Passed (c s : List ℕ) (limit i : ℕ) : Type 0 where
-  pub within : i ≤ limit
-  pub none-before : (j : ℕ) → j < i → StandsAt c s j → ⊥
+        module _ (b : i + j < length s) where
+          module _ {x r : ℕ} (f : getD s (i + j) 0 ≡ x) (a : Advances (turn c) m x r) where
+            turned-on : Open (turn c) s k (i + j + 1) r
+            turned-on = open-more (q .both .turned) b f a (open-to-come (q .both .turned) (λ z. n (z ∙ as-long)))
 
-module _ (c s : List ℕ) (limit : ℕ) where
-  pub passed-none : Passed c s limit 0
-  passed-none = record { within = omega arith; none-before = λ j l. absurd (omega arith) }
+            few : r ≤ m + 1
+            few = advances-one (open-in (q .both .turned) .0) a
 
-  module _ (i : ℕ) (p : Passed c s limit i) where
-    pub passed-more : i < limit → (StandsAt c s i → ⊥) → Passed c s limit (i + 1)
-    passed-more l n = record { within = omega arith; none-before = λ j m. go j m (is-lt j i) }
-      where
-        go : (j : ℕ) → j < i + 1 → {t : Bool} → Decides (j < i) t → StandsAt c s j → ⊥
-        go j m (yes b) = p .none-before j b
-        go j m (no b) = subst (λ (k : ℕ). StandsAt c s k → ⊥) (omega arith) n
+            pub seeking-more : getD c j 0 ≡ x → Seeking turn c s k p i (j + 1) r
+            seeking-more d =
+                let e : i + j + 1 ≡ i + (j + 1) = omega arith in
+                record {
+                  both = record {
+                    given = subst (λ (z : ℕ). Open c s k z (j + 1)) e (open-match (q .both .given) b l (d ∙ sym f));
+                    turned = subst (λ (z : ℕ). Open (turn c) s k z r) e turned-on;
+                    clear = q .both .clear;
+                  };
+                  given-from = q .given-from;
+                  turned-from = omega (arith, q .turned-from, few);
+                }
 
-    pub first-here : (i < limit → StandsAt c s i) → FirstStart c s limit i
-    first-here h = record { within = p .within; stands = h; none-before = p .none-before }
+            pub seeking-next : j ≡ 0 → (getD c j 0 ≡ x → ⊥) → Seeking turn c s k p (i + 1) j r
+            seeking-next z d =
+                let e : i + j + 1 ≡ i + 1 + j = omega arith in
+                let o : Open c s k (i + j + 1) 0 = open-next (q .both .given) b l (λ y. d (y ∙ f)) z in
+                record {
+                  both = record {
+                    given = subst (λ (y : ℕ). Open c s k y j) e (subst (Open c s k (i + j + 1)) (sym z) o);
+                    turned = subst (λ (y : ℕ). Open (turn c) s k y r) e turned-on;
+                    clear = q .both .clear;
+                  };
+                  given-from = omega (arith, q .given-from);
+                  turned-from = omega (arith, q .turned-from, few);
+                }
 
--- The place, by the first starts of both ways: g as given, and t turned below g.
-end-within : {c s : List ℕ} {i : ℕ} → StandsAt c s i → i + length c ≤ length s
-end-within h = omega (arith, h .start, stands-length (h .stands))
+          -- the start moves on by what the fall-back leaves
+          pub seeking-fall : {f : ℕ} → (getD c j 0 ≡ getD s (i + j) 0 → ⊥) → FallBack c j f
+              → Seeking turn c s k p (i + (j - f)) f m
+          seeking-fall {f} d g =
+              let e : i + j ≡ i + (j - f) + f = omega (arith, g .shorter) in
+              record {
+                both = record {
+                  given = subst (λ (y : ℕ). Open c s k y f) e (open-fall (q .both .given) b l d g);
+                  turned = subst (λ (y : ℕ). Open (turn c) s k y m) e (q .both .turned);
+                  clear = q .both .clear;
+                };
+                given-from = omega (arith, q .given-from);
+                turned-from = omega (arith, q .turned-from, g .shorter);
+              }
 
-module _ (turn : List ℕ → List ℕ) (c s : List ℕ) where
-  -- a word that stands at no start with room for it stands at none
-  pub place-none : length (turn c) ≡ length c → ((j : ℕ) → j + length c ≤ length s → Neither turn c s j)
-      → IsPlace turn 0 c s nowhere
-  place-none e n =
-      is-nowhere (λ j l. record {
-        not-given = λ h. n j (end-within h) .not-given h;
-        not-turned = λ h. n j (omega (arith, e, end-within h)) .not-turned h;
+-- The answer: where the search ends, the word stands as given, or else turned.
+module _ {turn : List ℕ → List ℕ} {c s : List ℕ} {k : ℕ} where
+  pub place-behind : length (turn c) ≡ length c → length s < k + length c → IsPlace turn k c s nowhere
+  place-behind as-long l =
+      is-nowhere (λ j m. record {
+        not-given = λ x. omega (arith, end-within x);
+        not-turned = λ x. omega (arith, as-long, end-within x);
       })
 
-  module _ {limit g t : ℕ} (a : FirstStart c s limit g) (b : FirstStart (turn c) s g t) where
-    neither : (j : ℕ) → j < t → Neither turn c s j
-    neither j l = record { not-given = a .none-before j (omega (arith, b .within)); not-turned = b .none-before j l }
+  module _ {i : ℕ} (f : FirstStart turn k c s i) where
+    pub place-nowhere : length s < i → IsPlace turn k c s nowhere
+    place-nowhere l =
+        is-nowhere (λ j m. record {
+          not-given = λ x. f .none-before j m (omega (arith, start-within x)) .not-given x;
+          not-turned = λ x. f .none-before j m (omega (arith, start-within x)) .not-turned x;
+        })
 
-    pub place-turned : t < g → IsPlace turn 0 c s (turned-at t)
-    place-turned l = is-turned {i = t} (omega arith) (a .none-before t l) (b .stands l) (λ j m n. neither j n)
+    module _ (l : i ≤ length s) where
+      test : Decides (StandsAt c s i) (begins c (take (length s - i) (drop i s)))
+      test = is-standing-at c l (sym (take-all (length s - i) (drop i s) (omega (arith, length-drop i s))))
 
-    pub place-given : g ≤ t → g < limit → IsPlace turn 0 c s (given-at g)
-    place-given l m = is-given {i = g} (omega arith) (a .stands m) (λ j k n. neither j (omega arith))
+      pub place-given : begins c (take (length s - i) (drop i s)) ≡ true → IsPlace turn k c s (given-at i)
+      place-given e = is-given {i = i} (f .from-on) (holds test e) (f .none-before)
 
-    pub place-past : length (turn c) ≡ length c → g ≤ t → limit ≤ g → length s < limit + length c
-        → IsPlace turn 0 c s nowhere
-    place-past e l m n = place-none e (λ j k. neither j (omega arith))
+      pub place-turned : begins c (take (length s - i) (drop i s)) ≡ false → IsPlace turn k c s (turned-at i)
+      place-turned e = is-turned {i = i} (f .from-on) (fails test e) (other (f .stands l)) (f .none-before)
+        where
+          other : StandsHere turn c s i → StandsAt (turn c) s i
+          other (inl x) = absurd (fails test e x)
+          other (inr x) = x

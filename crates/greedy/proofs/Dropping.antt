@@ -3,15 +3,16 @@
 use mathlib.Core.Path.{_≡_, refl, sym, ap, subst, _∙_}
 use mathlib.Core.Logic.{_⊎_, inl, inr, _≢_}
 use mathlib.Core.Bool.{Bool, true, false, _&&_, false≢true}
-use mathlib.Core.List.{List, [], _∷_, map}
+use mathlib.Core.List.{List, _∷_, map}
 use Prim.Native.Nat.{ℕ, zero, suc, _+_, _≤_, _<_}
 use native.Mathlib.Omega.{arith}
 use native.Mathlib.Decide.{ℕ-discrete}
 use lib.ListN.{length}
-use Rattle.words.specs.Lists.{In}
+use Rattle.words.specs.Lists.{In, Rising}
 use Rattle.words.specs.Decides.{Decides}
 use Rattle.words.proofs.Deciding.{fails, refuses, decides-via, decides-and, decides-or, is-lt, is-eq}
-use Rattle.greedy.specs.Dropping.{codeAt, Rising, Outranks, Dropped, Keeps, Keeper}
+use Rattle.words.proofs.Lists.{rising-same}
+use Rattle.greedy.specs.Dropping.{codeAt, Outranks, Dropped, Keeps, Keeper}
 use Rattle.greedy.specs.Dropping.{someBelow, without, outranks, isDropped, keptBy}
 
 -- Some number below n, by a test of each.
@@ -67,27 +68,6 @@ module _ (p : ℕ → Bool) where
       go : (t : Bool) → p i ≡ t → Rising (without p (suc i) n) → Rising (without p i (suc n))
       go true e r = rw (e, without) r
       go false e r = rw (e, without) ((λ j x. in-without (suc i) n j x .0), r)
-
--- Two rising lists of the same numbers are the same.
-rising-same : (p q : List ℕ) → Rising p → Rising q → ((i : ℕ) → In i p → In i q) → ((i : ℕ) → In i q → In i p) → p ≡ q
-rising-same [] [] r s u v = refl
-rising-same [] (j ∷ q) r s u v = absurd (v j (inl refl))
-rising-same (i ∷ p) [] r s u v = absurd (u i (inl refl))
-rising-same (i ∷ p) (j ∷ q) r s u v =
-    let e = heads (u i (inl refl)) (v j (inl refl)) in
-    let there : (k : ℕ) → In k p → In k q = λ k x. later k i j q (r .0 k x) e (u k (inr x)) in
-    let back : (k : ℕ) → In k q → In k p = λ k x. later k j i p (s .0 k x) (sym e) (v k (inr x)) in
-    let t = rising-same p q (r .1) (s .1) there back in
-    cc
-  where
-    heads : In i (j ∷ q) → In j (i ∷ p) → i ≡ j
-    heads (inl e) y = e
-    heads (inr x) (inl e) = sym e
-    heads (inr x) (inr y) = absurd (omega (arith, r .0 j y, s .0 i x))
-
-    later : (k m n : ℕ) (l : List ℕ) → m < k → m ≡ n → In k (n ∷ l) → In k l
-    later k m n l h e (inl x) = absurd (omega arith)
-    later k m n l h e (inr x) = x
 
 pub keeps-one : {Holds : List ℕ → List ℕ → Type 0} {cs ks ls : List (List ℕ)} → Keeps Holds cs ks → Keeps Holds cs ls
     → ks ≡ ls

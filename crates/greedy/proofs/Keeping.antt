@@ -9,14 +9,14 @@ use Prim.Native.Nat.{ℕ, zero, suc, _+_, _≤_, _<_}
 use native.Mathlib.Omega.{arith}
 use native.Mathlib.Decide.{ℕ-discrete, decLe}
 use lib.ListN.{length, getD}
-use Rattle.words.specs.Lists.{In, Each}
+use Rattle.words.specs.Lists.{In, Each, Rising}
 use Rattle.words.specs.Turn.{Turning}
 use Rattle.words.specs.Stand.{StandsSomeWay}
 use Rattle.words.specs.Decides.{Decides}
 use Rattle.words.proofs.Lists.{in-map, map-in, in-each, each-in}
 use Rattle.words.proofs.Standing.{way-within, way-length, way-swap}
 use Rattle.lists.specs.Runs.{total, lengths}
-use Rattle.greedy.specs.Dropping.{codeAt, Rising, Outranks, Dropped, Keeps}
+use Rattle.greedy.specs.Dropping.{codeAt, Outranks, Dropped, Keeps}
 use Rattle.greedy.proofs.Dropping.{is-dropped}
 
 -- what one code holding another must have

@@ -7,17 +7,12 @@ use mathlib.Core.List.{List, [], _∷_, map}
 use Prim.Native.Nat.{ℕ, zero, suc, _<_}
 use lib.Dec.{eqb, ltb}
 use lib.ListN.{length, getD}
-use Rattle.words.specs.Lists.{In}
+use Rattle.words.specs.Lists.{In, Rising}
 use Rattle.words.specs.Stand.{someWay}
 
 -- code number i of a list
 abbrev pub codeAt : List (List ℕ) → ℕ → List ℕ
 codeAt cs i = getD cs i []
-
--- numbers in rising order
-abbrev pub Rising : List ℕ → Type 0
-Rising [] = Unit {0}
-Rising (i ∷ p) = ((j : ℕ) → In j p → i < j) × Rising p
 
 -- code j is longer than code i, or equally long with a lower number
 abbrev pub Outranks : List (List ℕ) → ℕ → ℕ → Type 0

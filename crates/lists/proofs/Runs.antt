@@ -2,7 +2,7 @@
 -- induction over the words, or over their lengths. And the part of a run between two marks.
 use mathlib.Core.Path.{_≡_, refl, ap, _∙_}
 use mathlib.Core.List.{List, [], _∷_, _++_, append-assoc}
-use Prim.Native.Nat.{ℕ, suc, _+_, _-_, _≤_, _<_}
+use Prim.Native.Nat.{ℕ, zero, suc, _+_, _-_, _≤_, _<_}
 use native.Mathlib.Numerals.{add-one}
 use native.Mathlib.Omega.{arith}
 use lib.ListN.{length, getD, take, drop, set, length-append, length-drop, take-append-drop}
@@ -18,6 +18,23 @@ cut-again (c ∷ cs) = rw (take-at, drop-at, cut-again cs)
 pub total-lengths : (cs : List (List ℕ)) → total (lengths cs) ≡ length (flat cs)
 total-lengths [] = refl
 total-lengths (c ∷ cs) = omega (arith, total-lengths cs, length-append c (flat cs))
+
+-- numbers added up, of two rows and of one more
+pub total-append : (xs ys : List ℕ) → total (xs ++ ys) ≡ total xs + total ys
+total-append [] ys = omega arith
+total-append (x ∷ xs) ys = omega (arith, total-append xs ys)
+
+pub total-more : (ls : List ℕ) (i : ℕ) → i < length ls → total (take (suc i) ls) ≡ total (take i ls) + getD ls i 0
+total-more ls i h =
+    let e : total (take (suc i) ls) ≡ total (take i ls ++ (getD ls i 0 ∷ [])) = ap total (take-suc ls i 0 h) in
+    omega (arith, total-append (take i ls) (getD ls i 0 ∷ []))
+
+-- the more of a row, the greater the sum
+pub total-grows : (ls : List ℕ) (i j : ℕ) → i ≤ j → total (take i ls) ≤ total (take j ls)
+total-grows ls zero j l = omega arith
+total-grows [] (suc i) j l = omega arith
+total-grows (n ∷ ls) (suc i) zero l = absurd (omega arith)
+total-grows (n ∷ ls) (suc i) (suc j) l = omega (arith, total-grows ls i j (omega arith))
 
 -- as many words as lengths
 pub codes-count : (run ls : List ℕ) → length (codesIn run ls) ≡ length ls

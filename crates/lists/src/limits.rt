@@ -16,4 +16,4 @@ pub const MOST_NAME_BYTES: usize = 3072;
 pub const MOST_SUPPLIED_BANDS: usize = 16384;
 
 // The bytes of a sheet.
-pub const MOST_SHEET_BYTES: usize = 16534;
+pub const MOST_SHEET_BYTES: usize = 17181;

@@ -21,7 +21,7 @@ fn follows(b: &[u8], turned: bool, k: usize, x: u8) -> bool
 }
 
 // One band further: m bands of a way of b are held, and x comes next. The row has the fall-backs from up to m bands.
-fn go_on(b: &[u8], turned: bool, falls: &[usize], m: usize, x: u8) -> usize
+pub fn go_on(b: &[u8], turned: bool, falls: &[usize], m: usize, x: u8) -> usize
     requires { ⌜ (m ≤ length (now b)) × FallBacks (wayOf turned (now b)) (now falls) m ⌝ }
     ensures { λ r. ⌜ Advances (wayOf turned (now (b .entry))) m x r ⌝ }
 {
@@ -46,6 +46,19 @@ fn fill_to(b: &[u8], turned: bool, falls: &mut [usize], n: usize, m: usize) -> u
     }
     falls[m] = go_on(b, turned, falls, falls[n], band_at(b, turned, n));
     m
+}
+
+// The row of the fall-backs from all beginnings of a way of b.
+pub fn fall_backs(b: &[u8], turned: bool) -> [usize; MOST_HELD + 1]
+    requires { ⌜ length (now b) ≤ 64 ⌝ }
+    ensures { λ r. ⌜ FallBacks (wayOf turned (now (b .entry))) r (length (now (b .entry))) ⌝ }
+{
+    let mut row = [0usize; MOST_HELD + 1];
+    let mut filled = 1;
+    while filled < b.len() {
+        filled = fill_to(b, turned, &mut row, filled, filled + 1);
+    }
+    row
 }
 
 // The match held at the end of a pass along the last k bands of a way of a: the longest beginning of a way of b that ends

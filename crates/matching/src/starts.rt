@@ -6,7 +6,7 @@ ghost use Rattle.words.specs.Stand.{begins, standsIn, someWay};
 use crate::bands::agree;
 
 // A way of c begins the row s.
-fn begins_way(c: &[u8], turned: bool, s: &[u8]) -> bool
+pub fn begins_way(c: &[u8], turned: bool, s: &[u8]) -> bool
     ensures { λ r. ⌜ r ≡ begins (wayOf turned (now (c .entry))) (now (s .entry)) ⌝ }
 {
     if s.len() < c.len() {

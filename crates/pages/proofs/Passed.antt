@@ -1,4 +1,4 @@
--- What names, sizes, lengths, records and ribbon own, the parameters that a sheet is written from, and how a walk passes
+-- What names, sizes, lengths, shown and ribbon own, the parameters that a sheet is written from, and how a walk passes
 -- them on to a callee that takes them in that order: it keeps what the four slices own, and of it makes what the callee's
 -- parameters own, as often as there are calls.
 --     Slices       what the four slices own
@@ -26,29 +26,29 @@ use denote.Ref.{RefT, now}
 use denote.Slice.{sliceVal, ShrSlice, shr-slice-copy}
 use denote.Steps.{owned}
 use denote.Struct.Laws as LL
-use Rattle.places.specs.declared.Place.{Place}
-use Rattle.places.proofs.Place as P
-use Rattle.places.proofs.Place.Laws as P′
+use Rattle.sheet_rows.specs.declared.Shown.{Shown}
+use Rattle.sheet_rows.proofs.Shown as S
+use Rattle.sheet_rows.proofs.Shown.Laws as S′
 
--- the records' type, and their machine value
-abbrev pub Records : RattleType
-Records = Array P.the-row 128
+-- the type of what is shown of all codes, and its machine value
+abbrev pub AllShown : RattleType
+AllShown = Array S.the-row 128
 
-abbrev pub records-vals : List Place → List Val
-records-vals = array-vals (LL.vals P.the-type P′.the-laws)
+abbrev pub shown-vals : List Shown → List Val
+shown-vals = array-vals (LL.vals S.the-type S′.the-laws)
 
 abbrev first : List Val → Val
 first [] = vint w64 0
 first (v ∷ vs) = v
 
-abbrev pub records-val : List Place → Val
-records-val xs = first (records-vals xs)
+abbrev pub shown-val : List Shown → Val
+shown-val xs = first (shown-vals xs)
 
 -- a slice's machine value
 abbrev pub slice-val : RefT (List ℕ) → Val
 slice-val x = sliceVal (x .ptr) (length (now x))
 
-module _ (κ₀ κ₁ κ₂ κ₃ : Lft) (x₀ x₁ x₂ : RefT (List ℕ)) (xs : List Place) (x₃ : RefT (List ℕ)) where
+module _ (κ₀ κ₁ κ₂ κ₃ : Lft) (x₀ x₁ x₂ : RefT (List ℕ)) (xs : List Shown) (x₃ : RefT (List ℕ)) where
   abbrev O₀ : Fml
   O₀ = ShrSlice (named 0) κ₀ u8 .own x₀ (slice-val x₀ ∷ [])
 
@@ -65,7 +65,7 @@ module _ (κ₀ κ₁ κ₂ κ₃ : Lft) (x₀ x₁ x₂ : RefT (List ℕ)) (xs 
   Slices = fsep O₀ (fsep O₁ (fsep O₂ O₃))
 
   abbrev pub Five : Fml → Fml
-  Five Q = fsep O₀ (fsep O₁ (fsep O₂ (fsep (Records .own xs (records-val xs ∷ [])) (fsep O₃ Q))))
+  Five Q = fsep O₀ (fsep O₁ (fsep O₂ (fsep (AllShown .own xs (shown-val xs ∷ [])) (fsep O₃ Q))))
 
   module _ {M : Type 1} (𝓤 : URA M) (H : Heap 𝓤) (A : Atoms 𝓤) (W : Given 𝓤 H A) (Q : Fml) where
     pub five-apart : ent 𝓤 (⋆ 𝓤 H A (‵ (Five Q) ∷ [])) (⋆ 𝓤 H A (‵ Q ∷ ‵ Slices ∷ []))
@@ -74,7 +74,7 @@ module _ (κ₀ κ₁ κ₂ κ₃ : Lft) (x₀ x₁ x₂ : RefT (List ℕ)) (xs 
         -- [O₃; Q; O₂; O₁; O₀]
         move ! (2 ∷ 0 ∷ []) $ fjoin ! $ move ! (2 ∷ 0 ∷ []) $ fjoin ! $ move ! (2 ∷ 0 ∷ []) $ fjoin ! $ move ! (1 ∷ 0 ∷ []) $ frame ! $ done !
 
-    pub five-made : Is Records xs (records-val xs ∷ []) → ent 𝓤 (⋆ 𝓤 H A (‵ Q ∷ ‵ Slices ∷ [])) (⋆ 𝓤 H A (‵ (Five Q) ∷ ‵ Slices ∷ []))
+    pub five-made : Is AllShown xs (shown-val xs ∷ []) → ent 𝓤 (⋆ 𝓤 H A (‵ Q ∷ ‵ Slices ∷ [])) (⋆ 𝓤 H A (‵ (Five Q) ∷ ‵ Slices ∷ []))
     five-made is =
         qed W (‵ Q ∷ ‵ Slices ∷ []) ∵ move ! (1 ∷ []) $ fsplit ! $ move ! (1 ∷ []) $ fsplit ! $ move ! (1 ∷ []) $ fsplit ! $
         -- [O₂; O₃; O₁; O₀; Q]: each is copied
@@ -82,9 +82,9 @@ module _ (κ₀ κ₁ κ₂ κ₃ : Lft) (x₀ x₁ x₂ : RefT (List ℕ)) (xs 
         use1 W (‵ O₃ ⊛ ‵ O₃) (shr-slice-copy 𝓤 H A W (named 3) κ₃ u8 .twice x₃ (slice-val x₃ ∷ [])) $ split ! $ move ! (4 ∷ []) $
         use1 W (‵ O₁ ⊛ ‵ O₁) (shr-slice-copy 𝓤 H A W (named 1) κ₁ u16 .twice x₁ (slice-val x₁ ∷ [])) $ split ! $ move ! (6 ∷ []) $
         use1 W (‵ O₀ ⊛ ‵ O₀) (shr-slice-copy 𝓤 H A W (named 0) κ₀ u8 .twice x₀ (slice-val x₀ ∷ [])) $ split ! $
-        -- [O₀; O₀; O₁; O₁; O₃; O₃; O₂; O₂; Q]: the callee's, with the records, which are plain
-        move ! (4 ∷ 8 ∷ []) $ fjoin ! $ owned ! Records (Is Records) (array-makes 𝓤 H A W P.the-row (LL.makes P.the-type P′.the-plain 𝓤 H A) 128) xs _ is $ fjoin ! $
-        -- [the records, ribbon and Q; O₀; O₀; O₁; O₁; O₃; O₂; O₂]
+        -- [O₀; O₀; O₁; O₁; O₃; O₃; O₂; O₂; Q]: the callee's, with what is shown, which is plain
+        move ! (4 ∷ 8 ∷ []) $ fjoin ! $ owned ! AllShown (Is AllShown) (array-makes 𝓤 H A W S.the-row (LL.makes S.the-type S′.the-plain 𝓤 H A) 128) xs _ is $ fjoin ! $
+        -- [what is shown, ribbon and Q; O₀; O₀; O₁; O₁; O₃; O₂; O₂]
         move ! (6 ∷ 0 ∷ []) $ fjoin ! $ move ! (3 ∷ 0 ∷ []) $ fjoin ! $ move ! (1 ∷ 0 ∷ []) $ fjoin ! $ frame ! $
         -- [O₀; O₁; O₃; O₂]: the walk's own
         move ! (3 ∷ 2 ∷ []) $ fjoin ! $ move ! (2 ∷ 0 ∷ []) $ fjoin ! $ move ! (1 ∷ 0 ∷ []) $ fjoin ! $ done !

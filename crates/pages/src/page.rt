@@ -10,7 +10,7 @@ ghost use Rattle.sheet_rows.specs.Placed.{RowsThere, nthRow, placedRows, placed
 ghost use Rattle.pages.specs.Filled.{filled};
 ghost use Rattle.pages.specs.Pages.{PutsSheet};
 use lists::MOST_CODES;
-use places::Place;
+use sheet_rows::Shown;
 use sheet_rows::put_heading;
 use sheet_rows::put_nth;
 
@@ -29,7 +29,7 @@ fn begin<'a>(out: &'a mut [u8]) -> Writer<'a>
 
 // The heading row is written at the mark, and the mark moves behind it.
 fn heading<'a>(w: Writer<'a>) -> Writer<'a>
-    requires { ⌜ w .mark + 22 ≤ length (now (w .out)) ⌝ }
+    requires { ⌜ w .mark + 29 ≤ length (now (w .out)) ⌝ }
     ensures { λ r. ⌜ r ≡ filled (w .entry) (rowText sheetHeading) ⌝ }
 {
     let mark = w.mark;
@@ -46,15 +46,15 @@ fn row<'a>(
     names: &[u8],
     sizes: &[u16],
     lengths: &[u16],
-    records: [Place; MOST_CODES],
+    shown: [Shown; MOST_CODES],
     ribbon: &[u8],
     i: usize,
 ) -> Writer<'a>
-    requires { ⌜ RowsThere (now names) (now sizes) (now lengths) records (now ribbon) × (i < length (now lengths)) × (w .mark + length (nthRow (now names) (now sizes) (now lengths) records (now ribbon) i) ≤ length (now (w .out))) ⌝ }
-    ensures { λ r. ⌜ r ≡ filled (w .entry) (nthRow (now (names .entry)) (now (sizes .entry)) (now (lengths .entry)) records (now (ribbon .entry)) i) ⌝ }
+    requires { ⌜ RowsThere (now names) (now sizes) (now lengths) shown (now ribbon) × (i < length (now lengths)) × (w .mark + length (nthRow (now names) (now sizes) (now lengths) shown (now ribbon) i) ≤ length (now (w .out))) ⌝ }
+    ensures { λ r. ⌜ r ≡ filled (w .entry) (nthRow (now (names .entry)) (now (sizes .entry)) (now (lengths .entry)) shown (now (ribbon .entry)) i) ⌝ }
 {
     let mark = w.mark;
-    let next = put_nth(names, sizes, lengths, records, ribbon, i, &mut *w.out, mark);
+    let next = put_nth(names, sizes, lengths, shown, ribbon, i, &mut *w.out, mark);
     Writer {
         out: w.out,
         mark: next,
@@ -67,16 +67,16 @@ fn rows<'a>(
     names: &[u8],
     sizes: &[u16],
     lengths: &[u16],
-    records: [Place; MOST_CODES],
+    shown: [Shown; MOST_CODES],
     ribbon: &[u8],
 ) -> usize
-    requires { ⌜ RowsThere (now names) (now sizes) (now lengths) records (now ribbon) × (w .mark + length (placedRows (codesIn (now names) (now sizes)) (now lengths) records (now ribbon)) ≤ length (now (w .out))) ⌝ }
-    ensures { λ r. ⌜ Written (now (w .entry .out)) (w .entry .mark) (placedRows (codesIn (now (names .entry)) (now (sizes .entry))) (now (lengths .entry)) records (now (ribbon .entry))) (now (w .exit .0)) r ⌝ }
+    requires { ⌜ RowsThere (now names) (now sizes) (now lengths) shown (now ribbon) × (w .mark + length (placedRows (codesIn (now names) (now sizes)) (now lengths) shown (now ribbon)) ≤ length (now (w .out))) ⌝ }
+    ensures { λ r. ⌜ Written (now (w .entry .out)) (w .entry .mark) (placedRows (codesIn (now (names .entry)) (now (sizes .entry))) (now (lengths .entry)) shown (now (ribbon .entry))) (now (w .exit .0)) r ⌝ }
 {
     let mut page = w;
     let mut i = 0;
     while i < lengths.len() {
-        page = row(page, names, sizes, lengths, records, ribbon, i);
+        page = row(page, names, sizes, lengths, shown, ribbon, i);
         i += 1;
     }
     page.mark
@@ -87,13 +87,13 @@ pub fn put_sheet(
     names: &[u8],
     sizes: &[u16],
     lengths: &[u16],
-    records: [Place; MOST_CODES],
+    shown: [Shown; MOST_CODES],
     ribbon: &[u8],
     out: &mut [u8],
 ) -> usize
-    requires { ⌜ RowsThere (now names) (now sizes) (now lengths) records (now ribbon) × (length (placedSheet (codesIn (now names) (now sizes)) (now lengths) records (now ribbon)) ≤ length (now out)) ⌝ }
-    ensures { λ r. ⌜ PutsSheet (placedSheet (codesIn (now (names .entry)) (now (sizes .entry))) (now (lengths .entry)) records (now (ribbon .entry))) (now (out .entry)) (now (out .exit)) r ⌝ }
+    requires { ⌜ RowsThere (now names) (now sizes) (now lengths) shown (now ribbon) × (length (placedSheet (codesIn (now names) (now sizes)) (now lengths) shown (now ribbon)) ≤ length (now out)) ⌝ }
+    ensures { λ r. ⌜ PutsSheet (placedSheet (codesIn (now (names .entry)) (now (sizes .entry))) (now (lengths .entry)) shown (now (ribbon .entry))) (now (out .entry)) (now (out .exit)) r ⌝ }
 {
     let w = heading(begin(out));
-    rows(w, names, sizes, lengths, records, ribbon)
+    rows(w, names, sizes, lengths, shown, ribbon)
 }

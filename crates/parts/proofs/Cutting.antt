@@ -1,16 +1,16 @@
 -- Cutting a list into parts: starts are running sums of the lengths, so the parts are the codes of the run.
 use mathlib.Core.Path.{_≡_, refl, sym, ap, _∙_}
-use mathlib.Core.List.{List, [], _∷_, _++_}
+use mathlib.Core.List.{List, [], _∷_}
 use Prim.Native.Nat.{ℕ, zero, suc, _+_, _*_, _≤_, _<_}
 use native.Mathlib.Numerals.{add-one}
 use native.Mathlib.Omega.{arith}
 use native.Mathlib.Decide.{ℕ-discrete}
 use lib.ListN.{length, take, drop, getD, set, length-set, length-map}
-use lib.Seq.{take-suc, getD-set-same, getD-set-other, drop-drop, ext-getD}
+use lib.Seq.{getD-set-same, getD-set-other, drop-drop, ext-getD}
 use Rattle.words.specs.Lists.{Each}
 use Rattle.lists.specs.Runs.{codesIn, total, lengths}
 use Rattle.lists.specs.Rules.{CodeRule, FitList}
-use Rattle.lists.proofs.Runs.{codes-count, adds-up}
+use Rattle.lists.proofs.Runs.{codes-count, adds-up, total-more}
 use Rattle.greedy.specs.Dropping.{codeAt}
 use Rattle.parts.specs.Parts.{partAt, partsOf, InRun, CutInto}
 use Rattle.parts.proofs.Parts.{parts-length, part-is}
@@ -32,15 +32,6 @@ pub record Cutting (ls starts starts' sizes sizes' : List ℕ) (at i : ℕ) : Ty
   pub sizes-long : length sizes' ≡ length sizes
   pub start : (k : ℕ) → k < i → getD starts' k 0 ≡ total (take k ls)
   pub size : (k : ℕ) → k < i → getD sizes' k 0 ≡ getD ls k 0
-
-pub total-append : (xs ys : List ℕ) → total (xs ++ ys) ≡ total xs + total ys
-total-append [] ys = omega arith
-total-append (x ∷ xs) ys = omega (arith, total-append xs ys)
-
-pub total-more : (ls : List ℕ) (i : ℕ) → i < length ls → total (take (suc i) ls) ≡ total (take i ls) + getD ls i 0
-total-more ls i h =
-    let e : total (take (suc i) ls) ≡ total (take i ls ++ (getD ls i 0 ∷ [])) = ap total (take-suc ls i 0 h) in
-    omega (arith, total-append (take i ls) (getD ls i 0 ∷ []))
 
 pub total-part : (ls : List ℕ) (i : ℕ) → i < length ls → total (take i ls) + getD ls i 0 ≤ total ls
 total-part [] i h = absurd (omega arith)
@@ -76,6 +67,18 @@ code-at run (n ∷ ls) zero h = refl
 code-at run (n ∷ ls) (suc k) h =
     code-at (drop n run) ls k (omega arith) ∙ ap (take (getD ls k 0)) (drop-drop (total (take k ls)) n run)
 
+-- a code of a list that fits has some bands, and few
+pub fit-size : {run ls : List ℕ} → FitList run ls → (i : ℕ) → i < length ls → (1 ≤ getD ls i 0) × (getD ls i 0 ≤ 64)
+fit-size {run} {ls} fit i h = go run ls i h (fit .coded) (fit .as-long)
+  where
+    go : (run ls : List ℕ) (i : ℕ) → i < length ls → Each CodeRule (codesIn run ls) → lengths (codesIn run ls) ≡ ls
+        → (1 ≤ getD ls i 0) × (getD ls i 0 ≤ 64)
+    go run [] i l e q = absurd (omega arith)
+    go run (n ∷ ls) zero l e q =
+        let m : length (take n run) ≡ n = cc in
+        (omega (arith, e .0 .0), omega (arith, e .0 .1))
+    go run (n ∷ ls) (suc i) l e q = go (drop n run) ls i (omega arith) (e .1) (cc)
+
 module _ {run ls starts sizes : List ℕ} {ss zs : List ℕ} (fit : FitList run ls) (cut : CutInto ls ss starts zs sizes) where
   pub cut-parts : partsOf run starts sizes (length ls) ≡ codesIn run ls
   cut-parts =
@@ -96,16 +99,8 @@ module _ {run ls starts sizes : List ℕ} {ss zs : List ℕ} (fit : FitList run 
         starts-there = omega (arith, cut .starts-long);
         sizes-there = omega (arith, cut .sizes-long);
         ends = λ i l. omega (arith, cut .start i l, cut .size i l, total-part ls i l, whole-sum);
-        short = λ i l. omega (arith, cut .size i l, short-at run ls i l (fit .coded) (fit .as-long));
+        short = λ i l. omega (arith, cut .size i l, fit-size fit i l .1);
       }
-    where
-      short-at : (run ls : List ℕ) (i : ℕ) → i < length ls → Each CodeRule (codesIn run ls) → lengths (codesIn run ls) ≡ ls
-          → getD ls i 0 ≤ 64
-      short-at run [] i l e q = absurd (omega arith)
-      short-at run (n ∷ ls) zero l e q =
-          let m : length (take n run) ≡ n = cc in
-          omega (arith, e .0 .1)
-      short-at run (n ∷ ls) (suc i) l e q = short-at (drop n run) ls i (omega arith) (e .1) (cc)
 
 -- a list that fits has few bands
 pub fit-small : {run ls : List ℕ} → FitList run ls → total ls < 65536

@@ -36,4 +36,4 @@ pub record FindsPlaces (run ls row : List ℕ) (count : ℕ) (all : List declare
   pub room : length all ≡ 128
   pub are : recordsOf (take count all) ≡ recordsFrom 0 (take count (codesIn run ls)) row
   pub rest : drop count all ≡ drop count blanks
-  pub stops : count < length ls → found (placeOf turned (codeAt (codesIn run ls) count) row) ≡ false
+  pub stops : count < length ls → found (placeOf turned 0 (codeAt (codesIn run ls) count) row) ≡ false

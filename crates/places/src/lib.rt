@@ -9,6 +9,7 @@ ghost use Rattle.places.specs.Calls.{FindsPlaces, blanks};
 mod records; // the record of a code
 
 use lists::MOST_CODES;
+pub use records::count_from;
 use records::is_nowhere;
 use records::place_of;
 use records::record_of;

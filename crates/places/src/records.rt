@@ -5,6 +5,7 @@ ghost use Prim.Native.Nat.{_+_, _≤_, _<_};
 ghost use lib.ListN.{length, take, drop};
 ghost use Rattle.words.specs.Turn.{turned};
 ghost use Rattle.words.specs.Place as p;
+ghost use Rattle.words.specs.Count.{countOf};
 ghost use Rattle.finding.specs.Answers.{placeIn};
 ghost use Rattle.places.specs.Starts.{StartsWithin};
 ghost use Rattle.places.specs.Calls.{wayAt, recordOf};
@@ -14,10 +15,18 @@ use finding::Found;
 
 // The place of the code of so many bands that starts at a number in the lent run.
 pub fn place_of(bands: &[u8], at: usize, size: usize, ribbon: &[u8]) -> Found
-    requires { ⌜ (at + size ≤ length (now bands)) × (at + size < 65536) ⌝ }
-    ensures { λ r. ⌜ placeIn r ≡ p.placeOf turned (take size (drop at (now (bands .entry)))) (now (ribbon .entry)) ⌝ }
+    requires { ⌜ (at + size ≤ length (now bands)) × (at + size < 65536) × (1 ≤ size) × (size ≤ 64) ⌝ }
+    ensures { λ r. ⌜ placeIn r ≡ p.placeOf turned 0 (take size (drop at (now (bands .entry)))) (now (ribbon .entry)) ⌝ }
 {
-    finding::find_place(&bands[at..at + size], ribbon)
+    finding::find_place(&bands[at..at + size], ribbon, 0)
+}
+
+// How often the code of so many bands that starts at a number in the lent run stands on the ribbon from a start on.
+pub fn count_from(bands: &[u8], at: usize, size: usize, ribbon: &[u8], start: usize) -> usize
+    requires { ⌜ (at + size ≤ length (now bands)) × (at + size < 65536) × (1 ≤ size) × (size ≤ 64) × (start ≤ length (now ribbon)) ⌝ }
+    ensures { λ r. ⌜ r ≡ countOf turned (take size (drop at (now (bands .entry)))) (drop start (now (ribbon .entry))) ⌝ }
+{
+    finding::count_places(&bands[at..at + size], &ribbon[start..])
 }
 
 // Whether there is no place.

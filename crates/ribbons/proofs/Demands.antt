@@ -7,6 +7,7 @@ use Rattle.words.proofs.Standing.{is-some-way}
 use Rattle.words.proofs.Overlaps.{overlaps-ours, overlaps-only}
 use Rattle.words.proofs.FallBacks.{holds-ours, holds-only, falls-back-ours, falls-back-only}
 use Rattle.words.proofs.Placing.{finds-ours, finds-only}
+use Rattle.words.proofs.Counting.{counts-ours, counts-only}
 use Rattle.lists.specs.Outcome.{outcome}
 use Rattle.lists.specs.Runs.{codesIn}
 use Rattle.lists.proofs.Rules.{codes-checked, codes-only, names-checked, names-only}
@@ -43,6 +44,7 @@ pinned =
       passes = holds-ours;
       fall-backs = falls-back-ours;
       places = finds-ours turned;
+      counts = counts-ours turned;
       codes = codes-checked;
       names = names-checked;
       files = meets-ours;
@@ -70,6 +72,7 @@ no-freedom =
       passes = holds-only;
       fall-backs = falls-back-only;
       places = finds-only;
+      counts = counts-only;
       codes = codes-only;
       names = names-only;
       files = meets-only;

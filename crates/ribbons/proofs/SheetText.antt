@@ -18,7 +18,7 @@ use Rattle.programs.specs.Programs.{WritesOver}
 use Rattle.ribbons.proofs.Outputs.{writes-over}
 
 module _ (run ls name-run name-ls before : List ℕ) {after : List ℕ} {r : Wrote} (p : WritesSheet run ls name-run name-ls before after r)
-    (ok : listOk run ls ≡ true) (named : namesOk (length ls) name-run name-ls ≡ true) (room : 16534 ≤ length before) where
+    (ok : listOk run ls ≡ true) (named : namesOk (length ls) name-run name-ls ≡ true) (room : 17181 ≤ length before) where
   abbrev sheet : List ℕ
   sheet = sheetFor run ls name-run name-ls
 

@@ -12,6 +12,7 @@ use Rattle.words.specs.Stand.{StandsSomeWay}
 use Rattle.words.specs.Overlap.{Overlaps, overlap}
 use Rattle.words.specs.Falling.{Holds, FallsBack, heldAfter, fallBack}
 use Rattle.words.specs.Place.{Place, Finds, placeOf}
+use Rattle.words.specs.Count.{Counts, countOf}
 use Rattle.lists.specs.Runs.{codesIn, total, lengths, over}
 use Rattle.lists.specs.Rules.{Band, Printed, ChecksCodes, ChecksNames}
 use Rattle.lists.specs.Fit.{listOk, namesOk}
@@ -56,6 +57,7 @@ pub record Pinned : Type 0 where
   pub passes : Holds heldAfter
   pub fall-backs : FallsBack fallBack
   pub places : Finds turned (placeOf turned)
+  pub counts : Counts turned (countOf turned)
   pub codes : ChecksCodes listOk
   pub names : ChecksNames namesOk
   pub files : Meets readOrders
@@ -83,7 +85,9 @@ pub record NoFreedom : Type 0 where
       → held a b i ≡ heldAfter a b i
   pub fall-backs : (back : List ℕ → ℕ → ℕ) → FallsBack back → (b : List ℕ) (k : ℕ) → 0 < k → k ≤ length b
       → back b k ≡ fallBack b k
-  pub places : (find : List ℕ → List ℕ → Place) → Finds turned find → (c s : List ℕ) → find c s ≡ placeOf turned c s
+  pub places : (find : ℕ → List ℕ → List ℕ → Place) → Finds turned find → (k : ℕ) (c s : List ℕ)
+      → find k c s ≡ placeOf turned k c s
+  pub counts : (count : List ℕ → List ℕ → ℕ) → Counts turned count → (c s : List ℕ) → count c s ≡ countOf turned c s
   pub codes : (ok : List ℕ → List ℕ → Bool) → ChecksCodes ok → (run ls : List ℕ) → ok run ls ≡ listOk run ls
   pub names : (ok : ℕ → List ℕ → List ℕ → Bool) → ChecksNames ok → (count : ℕ) (run ls : List ℕ)
       → ok count run ls ≡ namesOk count run ls
@@ -160,7 +164,7 @@ SheetIsTrue =
 
 pub record Demands : Type 0 where
   -- 1. Nothing unfit is accepted, and what is refused leaves lent memory untouched: `reading`, `laying`, `checking` and
-  -- `sheets` of the records above. A fit list is accepted, into a buffer of 8,192 bytes, its sheet into one of 16,534.
+  -- `sheets` of the records above. A fit list is accepted, into a buffer of 8,192 bytes, its sheet into one of 17,181.
   -- While several pieces remain some join is allowed, so that rounds end. No call answers by another number than those of
   -- its list, and no program writes one; 14 is in none. What reading hands on is fit.
   pub pinned : Pinned
@@ -169,7 +173,7 @@ pub record Demands : Type 0 where
       → layOutcome run ls buffer .answer
       ≡ laid (length (ribbonFor turned (codesIn run ls))) (savedBy turned (codesIn run ls))
   pub accepted-sheet : (run ls name-run name-ls buffer : List ℕ) → listOk run ls ≡ true
-      → namesOk (length ls) name-run name-ls ≡ true → 16534 ≤ length buffer
+      → namesOk (length ls) name-run name-ls ≡ true → 17181 ≤ length buffer
       → sheetOutcome run ls name-run name-ls buffer .answer
       ≡ written (length (sheetFor run ls name-run name-ls)) (savedBy turned (codesIn run ls))
   pub always-allowed : AlwaysAllowed

@@ -18,7 +18,7 @@ use writer::write_sheet;
 
 // The sheet of a list with names that is fit. Such a list is not refused.
 fn sheet_text(bands: &[u8], lengths: &[u16], names: &[u8], sizes: &[u16], out: &mut [u8]) -> usize
-    requires { ⌜ (listOk (now bands) (now lengths) ≡ true) × (namesOk (length (now lengths)) (now names) (now sizes) ≡ true) × (16534 ≤ length (now out)) ⌝ }
+    requires { ⌜ (listOk (now bands) (now lengths) ≡ true) × (namesOk (length (now lengths)) (now names) (now sizes) ≡ true) × (17181 ≤ length (now out)) ⌝ }
     ensures { λ r. ⌜ WritesOver (sheetFor (now (bands .entry)) (now (lengths .entry)) (now (names .entry)) (now (sizes .entry))) (now (out .entry)) (now (out .exit)) r ⌝ }
 {
     let wrote = write_sheet(bands, lengths, names, sizes, out);

@@ -1,4 +1,4 @@
--- The sheet as it is written row after row: from the names, the codes' lengths, the ribbon and the place records.
+-- The sheet as it is written row after row: from the names, the codes' lengths, the ribbon and what is shown of each code.
 use mathlib.Core.List.{List, [], _∷_, _++_}
 use Prim.Native.Nat.{ℕ, _+_, _≤_, _<_}
 use mathlib.Core.Path.{_≡_}
@@ -6,52 +6,52 @@ use lib.ListN.{length, getD}
 use Rattle.words.specs.Texts.{text}
 use Rattle.lists.specs.Runs.{codesIn, total}
 use Rattle.greedy.specs.Dropping.{codeAt}
+use Rattle.grammar.specs.Files.{comma, lineBreak}
 use Rattle.grammar.specs.Quoting.{fieldText}
 use Rattle.places.specs.Calls.{wayAt}
-use Rattle.places.specs.declared.Place as declared
 use Rattle.places.specs.declared.Way.{Way}
 use Rattle.places.specs.declared.Way.the-variants.{Given, Turned}
+use Rattle.sheets.specs.Decimal.{decimal}
 use Rattle.sheets.specs.Sheet.{rowText, sheetHeading, placeFields}
+use Rattle.sheet_rows.specs.Shows.{nthShown}
+use Rattle.sheet_rows.specs.declared.Shown.{Shown}
 
--- the row of a name and of a code of so many bands, by its way and its place
-abbrev pub wayRow : List ℕ → ℕ → Way → List ℕ → List ℕ
-wayRow name n w ribbon = rowText (fieldText name ∷ placeFields ribbon n (wayAt w))
+-- the row of a name and of a code of so many bands, by what is shown of it
+abbrev pub placedRow : List ℕ → ℕ → Shown → List ℕ → List ℕ
+placedRow name n s ribbon = rowText (fieldText name ∷ placeFields ribbon n (wayAt (s .way)) (s .places))
 
-abbrev pub placedRow : List ℕ → ℕ → declared.Place → List ℕ → List ℕ
-placedRow name n p ribbon = wayRow name n (p .way) ribbon
-
-abbrev pub placedRows : List (List ℕ) → List ℕ → List declared.Place → List ℕ → List ℕ
-placedRows [] ls ps ribbon = []
-placedRows (n ∷ ns) [] ps ribbon = []
+abbrev pub placedRows : List (List ℕ) → List ℕ → List Shown → List ℕ → List ℕ
+placedRows [] ls ss ribbon = []
+placedRows (n ∷ ns) [] ss ribbon = []
 placedRows (n ∷ ns) (l ∷ ls) [] ribbon = []
-placedRows (n ∷ ns) (l ∷ ls) (p ∷ ps) ribbon = placedRow n l p ribbon ++ placedRows ns ls ps ribbon
+placedRows (n ∷ ns) (l ∷ ls) (s ∷ ss) ribbon = placedRow n l s ribbon ++ placedRows ns ls ss ribbon
 
-abbrev pub placedSheet : List (List ℕ) → List ℕ → List declared.Place → List ℕ → List ℕ
-placedSheet names ls ps ribbon = rowText sheetHeading ++ placedRows names ls ps ribbon
+abbrev pub placedSheet : List (List ℕ) → List ℕ → List Shown → List ℕ → List ℕ
+placedSheet names ls ss ribbon = rowText sheetHeading ++ placedRows names ls ss ribbon
 
 -- a way between its two commas
 abbrev pub wayText : Way → List ℕ
 wayText (Given i) = text ",given,"
 wayText (Turned i) = text ",turned,"
 
+-- a number of places between its comma and the end of the row
+abbrev pub placesText : ℕ → List ℕ
+placesText k = comma ∷ (decimal k ++ lineBreak)
+
 -- the start of a place
 abbrev pub startOf : Way → ℕ
 startOf (Given i) = i
 startOf (Turned i) = i
 
-abbrev pub nthPlace : List declared.Place → ℕ → declared.Place
-nthPlace ps i = getD ps i (record { code = 0; way = Given 0 })
-
 -- the row of code i
-abbrev pub nthRow : (names sizes ls : List ℕ) → List declared.Place → List ℕ → ℕ → List ℕ
-nthRow names sizes ls ps ribbon i = placedRow (codeAt (codesIn names sizes) i) (getD ls i 0) (nthPlace ps i) ribbon
+abbrev pub nthRow : (names sizes ls : List ℕ) → List Shown → List ℕ → ℕ → List ℕ
+nthRow names sizes ls ss ribbon i = placedRow (codeAt (codesIn names sizes) i) (getD ls i 0) (nthShown ss i) ribbon
 
--- Names, lengths and records are there for each code, and each place lies on the ribbon.
-pub record RowsThere (names sizes ls : List ℕ) (ps : List declared.Place) (ribbon : List ℕ) : Type 0 where
+-- Names, lengths and what is shown are there for each code, and each place lies on the ribbon.
+pub record RowsThere (names sizes ls : List ℕ) (ss : List Shown) (ribbon : List ℕ) : Type 0 where
   pub few : length ls ≤ 128
   pub one-each : length sizes ≡ length ls
   pub names-there : total sizes ≤ length names
-  pub records-there : length ls ≤ length ps
+  pub shown-there : length ls ≤ length ss
   pub short : (i : ℕ) → i < length ls → getD ls i 0 ≤ 64
-  pub on-ribbon : (i : ℕ) → i < length ls → startOf (nthPlace ps i .way) + getD ls i 0 ≤ length ribbon
-  pub ribbon-short : length ribbon ≤ 8192
+  pub on-ribbon : (i : ℕ) → i < length ls → startOf (nthShown ss i .way) + getD ls i 0 ≤ length ribbon

@@ -3,12 +3,12 @@ ghost use mathlib.Core.Path.{_≡_};
 ghost use Prim.Native.Nat.{_+_, _≤_, _<_};
 ghost use lib.ListN.{length};
 ghost use Rattle.lists.specs.Runs.{codesIn};
-ghost use Rattle.sheet_rows.specs.Placed.{RowsThere, wayText, startOf, wayRow, placedSheet};
+ghost use Rattle.sheet_rows.specs.Placed.{RowsThere, wayText, startOf, placedRow, placedSheet};
+use crate::Shown;
 use crate::rows::start_of;
 use fields::decimal_size;
 use fields::field_size;
 use lists::MOST_CODES;
-use places::Place;
 use places::Way;
 
 // The length of a way with its two commas.
@@ -21,13 +21,14 @@ fn way_size(way: Way) -> usize
     }
 }
 
-// The length of the row of a name and of a code of n bands: a comma and CR LF besides the fields.
-fn row_size(name: &[u8], n: usize, way: Way, ribbon: &[u8]) -> usize
-    requires { ⌜ (length (now name) < 65536) × (n ≤ 64) × (startOf way + n ≤ length (now ribbon)) ⌝ }
-    ensures { λ r. ⌜ r ≡ length (wayRow (now (name .entry)) n way (now (ribbon .entry))) ⌝ }
+// The length of the row of a name and of a code of n bands: two commas and CR LF besides the fields.
+fn row_size(name: &[u8], n: usize, shown: Shown, ribbon: &[u8]) -> usize
+    requires { ⌜ (length (now name) < 65536) × (n ≤ 64) × (startOf (shown .way) + n ≤ length (now ribbon)) ⌝ }
+    ensures { λ r. ⌜ (r ≡ length (placedRow (now (name .entry)) n shown (now (ribbon .entry)))) × (r ≤ 131200) ⌝ }
 {
+    let way = shown.way;
     let number = start_of(way);
-    field_size(name) + way_size(way) + decimal_size(number) + n + 3
+    field_size(name) + way_size(way) + decimal_size(number) + n + decimal_size(shown.places) + 4
 }
 
 // The length of the sheet.
@@ -35,21 +36,19 @@ pub fn sheet_size(
     names: &[u8],
     sizes: &[u16],
     lengths: &[u16],
-    records: [Place; MOST_CODES],
+    shown: [Shown; MOST_CODES],
     ribbon: &[u8],
 ) -> usize
-    requires { ⌜ RowsThere (now names) (now sizes) (now lengths) records (now ribbon) ⌝ }
-    ensures { λ r. ⌜ r ≡ length (placedSheet (codesIn (now (names .entry)) (now (sizes .entry))) (now (lengths .entry)) records (now (ribbon .entry))) ⌝ }
+    requires { ⌜ RowsThere (now names) (now sizes) (now lengths) shown (now ribbon) ⌝ }
+    ensures { λ r. ⌜ r ≡ length (placedSheet (codesIn (now (names .entry)) (now (sizes .entry))) (now (lengths .entry)) shown (now (ribbon .entry))) ⌝ }
 {
-    let mut size: usize = 22;
+    let mut size: usize = 29;
     let mut from: usize = 0;
     let mut i = 0;
     while i < lengths.len() {
         let to = from + sizes[i] as usize;
         let n = lengths[i] as usize;
-        let place = records[i];
-        let way = place.way;
-        size += row_size(&names[from..to], n, way, ribbon);
+        size += row_size(&names[from..to], n, shown[i], ribbon);
         from = to;
         i += 1;
     }

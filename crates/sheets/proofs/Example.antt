@@ -20,7 +20,7 @@ abbrev codes : List (List ℕ)
 codes = text "AABB" ∷ text "AAAC" ∷ text "ABBB" ∷ []
 
 abbrev sheet : List ℕ
-sheet = text "name,way,start,bands\r\nPump,given,2,AABB\r\nFan,turned,0,CAAA\r\nLamp,given,3,ABBB\r\n"
+sheet = text "name,way,start,bands,places\r\nPump,given,2,AABB,1\r\nFan,turned,0,CAAA,1\r\nLamp,given,3,ABBB,1\r\n"
 
 to-the-byte : same (sheetText names codes) sheet ≡ true
 unfolding turned

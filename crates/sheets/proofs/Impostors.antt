@@ -1,15 +1,17 @@
 -- Wrong calls that write a sheet, each written out and caught by the claim on a named list and buffer. The claim leaves
 -- one outcome, so an impostor is caught where its answer, or what it leaves in the buffer, is not that of ours.
 use mathlib.Core.Path.{_≡_, refl, ap, ap₂}
-use mathlib.Core.Bool.{Bool, true, false, _&&_, not}
+use mathlib.Core.Bool.{Bool, true, false, _&&_, _||_, not}
 use mathlib.Core.List.{List, [], _∷_, _++_, map, zip, zipWith}
-use Prim.Native.Nat.{ℕ, suc}
+use Prim.Native.Nat.{ℕ, zero, suc, _+_, _-_}
 use lib.Dec.{eqb, ltb, leb}
 use lib.ListN.{length, take, replicate}
 use Rattle.words.specs.Tests.{pick, same}
 use Rattle.words.specs.Turn.{turned}
 use Rattle.words.specs.Texts.{text}
+use Rattle.words.specs.Stand.{begins}
 use Rattle.words.specs.Place.{Place, given-at, turned-at, nowhere, placeOf}
+use Rattle.words.specs.Count.{countOf}
 use Rattle.words.proofs.Tests.{differ}
 use Rattle.lists.specs.Refusals.{whole, falseList, shortBuffer, when, firstOf}
 use Rattle.lists.specs.Outcome.{outcome}
@@ -25,23 +27,24 @@ use Rattle.sheets.specs.Answers.{SheetAnswer, SheetOutcome, refused, wri
 use Rattle.sheets.proofs.Answers.{sheets-only}
 
 -- A writer of sheets, where all is open that can go wrong: which rows in which order, how a name is written, the place,
--- how a start is written, and which bands.
+-- how a start is written, which bands, and what stands behind them for a code of these codes.
 abbrev Entry : Type 0
 Entry = List ℕ × List ℕ
 
 module _ (order : List (List ℕ) → List Entry → List Entry) (field : List ℕ → List ℕ)
-    (place : List ℕ → List ℕ → Place) (start : ℕ → List ℕ) (bands : List ℕ → List ℕ → ℕ → List ℕ) where
-  abbrev fieldsBy : List ℕ → List ℕ → Place → List (List ℕ)
-  fieldsBy code ribbon (given-at i) = text "given" ∷ start i ∷ bands code ribbon i ∷ []
-  fieldsBy code ribbon (turned-at i) = text "turned" ∷ start i ∷ bands code ribbon i ∷ []
-  fieldsBy code ribbon nowhere = []
+    (place : List ℕ → List ℕ → Place) (start : ℕ → List ℕ) (bands : List ℕ → List ℕ → ℕ → List ℕ)
+    (places : List (List ℕ) → List ℕ → List ℕ → List (List ℕ)) where
+  abbrev fieldsBy : List (List ℕ) → List ℕ → List ℕ → Place → List (List ℕ)
+  fieldsBy codes code ribbon (given-at i) = text "given" ∷ start i ∷ bands code ribbon i ∷ places codes code ribbon
+  fieldsBy codes code ribbon (turned-at i) = text "turned" ∷ start i ∷ bands code ribbon i ∷ places codes code ribbon
+  fieldsBy codes code ribbon nowhere = []
 
-  abbrev rowsBy : List ℕ → List Entry → List ℕ
-  rowsBy ribbon es =
-      flat (map (λ (e : Entry). rowText (field (e .0) ∷ fieldsBy (e .1) ribbon (place (e .1) ribbon))) es)
+  abbrev rowsBy : List (List ℕ) → List ℕ → List Entry → List ℕ
+  rowsBy codes ribbon es =
+      flat (map (λ (e : Entry). rowText (field (e .0) ∷ fieldsBy codes (e .1) ribbon (place (e .1) ribbon))) es)
 
   abbrev writeBy : List (List ℕ) → List (List ℕ) → List ℕ
-  writeBy names codes = rowText sheetHeading ++ rowsBy (ribbonFor turned codes) (order codes (zip names codes))
+  writeBy names codes = rowText sheetHeading ++ rowsBy codes (ribbonFor turned codes) (order codes (zip names codes))
 
 -- a call that writes so, and asks of the list what it asks
 abbrev Call : Type 0
@@ -58,18 +61,21 @@ callBy ok write run ls name-run name-ls buffer =
       | false ↦ outcome (refused (whole f)) buffer
     ]
 
--- The right ones: every entry in list order, the bands that stand there, codes and names checked.
+-- The right ones: every entry in list order, the bands that stand there, how often they do, codes and names checked.
 abbrev listed : List (List ℕ) → List Entry → List Entry
 listed cs es = es
 
 abbrev standing : List ℕ → List ℕ → ℕ → List ℕ
 standing code ribbon i = bandsAt ribbon (length code) i
 
+abbrev howOften : List (List ℕ) → List ℕ → List ℕ → List (List ℕ)
+howOften codes code ribbon = decimal (countOf turned code ribbon) ∷ []
+
 abbrev checked : List ℕ → List ℕ → List ℕ → List ℕ → Bool
 checked run ls name-run name-ls = listOk run ls && namesOk (length ls) name-run name-ls
 
 pub right-sheet-is-ours : (names codes : List (List ℕ))
-    → writeBy listed fieldText (placeOf turned) decimal standing names codes ≡ sheetText names codes
+    → writeBy listed fieldText (placeOf turned 0) decimal standing howOften names codes ≡ sheetText names codes
 unfolding zip zipWith
 right-sheet-is-ours names codes = ap (λ (r : List ℕ). rowText sheetHeading ++ r) (rows names codes)
   where
@@ -77,18 +83,20 @@ right-sheet-is-ours names codes = ap (λ (r : List ℕ). rowText sheetHeading ++
     ribbon = ribbonFor turned codes
 
     fields : (c : List ℕ) (p : Place)
-        → fieldsBy listed fieldText (placeOf turned) decimal standing c ribbon p ≡ placeFields ribbon (length c) p
+        → fieldsBy listed fieldText (placeOf turned 0) decimal standing howOften codes c ribbon p
+        ≡ placeFields ribbon (length c) p (countOf turned c ribbon)
     fields c (given-at i) = refl
     fields c (turned-at i) = refl
     fields c nowhere = refl
 
     rows : (ns cs : List (List ℕ))
-        → rowsBy listed fieldText (placeOf turned) decimal standing ribbon (zip ns cs) ≡ codeRows ns cs ribbon
+        → rowsBy listed fieldText (placeOf turned 0) decimal standing howOften codes ribbon (zip ns cs)
+        ≡ codeRows ns cs ribbon
     rows [] cs = refl
     rows (n ∷ ns) [] = refl
     rows (n ∷ ns) (c ∷ cs) =
         ap₂ (λ (fs : List (List ℕ)) (r : List ℕ). rowText (fieldText n ∷ fs) ++ r)
-        (fields c (placeOf turned c ribbon)) (rows ns cs)
+        (fields c (placeOf turned 0 c ribbon)) (rows ns cs)
 
 pub right-call-is-ours : (run ls name-run name-ls buffer : List ℕ)
     → callBy checked sheetText run ls name-run name-ls buffer ≡ sheetOutcome run ls name-run name-ls buffer
@@ -144,7 +152,7 @@ startOf nowhere = 0
 abbrev insert : List ℕ → Entry → List Entry → List Entry
 insert ribbon e [] = e ∷ []
 insert ribbon e (f ∷ fs) =
-    pick (leb (startOf (placeOf turned (e .1) ribbon)) (startOf (placeOf turned (f .1) ribbon))) (e ∷ (f ∷ fs))
+    pick (leb (startOf (placeOf turned 0 (e .1) ribbon)) (startOf (placeOf turned 0 (f .1) ribbon))) (e ∷ (f ∷ fs))
     (f ∷ insert ribbon e fs)
 
 abbrev alongRibbon : List (List ℕ) → List Entry → List Entry
@@ -152,7 +160,7 @@ alongRibbon cs [] = []
 alongRibbon cs (e ∷ es) = insert (ribbonFor turned cs) e (alongRibbon cs es)
 
 abbrev rowsIn : (List (List ℕ) → List Entry → List Entry) → Call
-rowsIn order = callBy checked (writeBy order fieldText (placeOf turned) decimal standing)
+rowsIn order = callBy checked (writeBy order fieldText (placeOf turned 0) decimal standing howOften)
 
 -- B and ABC, of which B is dropped
 pub not-kept-only : Sheets (rowsIn keptOnly) → ⊥
@@ -170,7 +178,7 @@ not-along-ribbon = caught (rowsIn alongRibbon) two (text "AB" ∷ text "CA" ∷ 
 
 -- Names: quotes not doubled, on a quote; never quoted, on a comma.
 abbrev namesBy : (List ℕ → List ℕ) → Call
-namesBy field = callBy checked (writeBy listed field (placeOf turned) decimal standing)
+namesBy field = callBy checked (writeBy listed field (placeOf turned 0) decimal standing howOften)
 
 pub not-undoubled : Sheets (namesBy undoubled) → ⊥
 unfolding turned zip zipWith
@@ -182,7 +190,7 @@ not-never-quoted = caught (namesBy (λ c. c)) (text "," ∷ []) (text "AB" ∷ [
 
 -- Places: always `given,0`, on AB and CD.
 abbrev alwaysFirst : Call
-alwaysFirst = callBy checked (writeBy listed fieldText (λ c s. given-at 0) decimal standing)
+alwaysFirst = callBy checked (writeBy listed fieldText (λ c s. given-at 0) decimal standing howOften)
 
 pub not-always-first : Sheets alwaysFirst → ⊥
 unfolding turned zip zipWith
@@ -190,7 +198,7 @@ not-always-first = caught alwaysFirst two apart room refl
 
 -- Starts: counted from 1; with a leading zero; digits reversed, on a code that starts at 10.
 abbrev startsBy : (ℕ → List ℕ) → Call
-startsBy number = callBy checked (writeBy listed fieldText (placeOf turned) number standing)
+startsBy number = callBy checked (writeBy listed fieldText (placeOf turned 0) number standing howOften)
 
 pub not-from-one : Sheets (startsBy (λ i. decimal (suc i))) → ⊥
 unfolding turned zip zipWith
@@ -206,11 +214,79 @@ not-reversed = caught (startsBy (λ i. turned (decimal i))) two (text "ABCDEFGHI
 
 -- Bands: as they are listed and not as they stand, on AB and BA.
 abbrev asListed : Call
-asListed = callBy checked (writeBy listed fieldText (placeOf turned) decimal (λ c s i. c))
+asListed = callBy checked (writeBy listed fieldText (placeOf turned 0) decimal (λ c s i. c) howOften)
 
 pub not-as-listed : Sheets asListed → ⊥
 unfolding turned zip zipWith
 not-as-listed = caught asListed two (text "AB" ∷ text "BA" ∷ []) room refl
+
+-- How often a code passes: always once; that of the code listed before it; each way by itself, on ABA; as given only;
+-- only starts past the end of the one counted before; not written, below our heading or below the earlier one.
+abbrev placesBy : (List (List ℕ) → List ℕ → List ℕ → List (List ℕ)) → Call
+placesBy places = callBy checked (writeBy listed fieldText (placeOf turned 0) decimal standing places)
+
+abbrev countedBy : (List ℕ → List ℕ → ℕ) → Call
+countedBy count = placesBy (λ cs c s. decimal (count c s) ∷ [])
+
+-- A and BAA, of which A passes twice
+pub not-once : Sheets (countedBy (λ c s. 1)) → ⊥
+unfolding turned zip zipWith
+not-once = caught (countedBy (λ c s. 1)) two (text "A" ∷ text "BAA" ∷ []) room refl
+
+abbrev before : List (List ℕ) → List ℕ → List ℕ
+before [] c = c
+before (d ∷ []) c = c
+before (d ∷ (e ∷ cs)) c = pick (same e c) d (before (e ∷ cs) c)
+
+abbrev ofTheOneBefore : Call
+ofTheOneBefore = placesBy (λ cs c s. howOften cs (before cs c) s)
+
+pub not-of-the-one-before : Sheets ofTheOneBefore → ⊥
+unfolding turned zip zipWith
+not-of-the-one-before = caught ofTheOneBefore two (text "A" ∷ text "BAA" ∷ []) room refl
+
+abbrev givenWay : List ℕ → List ℕ → ℕ
+givenWay c s = countOf (λ d. d) c s
+
+abbrev eachWay : List ℕ → List ℕ → ℕ
+eachWay c s = givenWay c s + givenWay (turned c) s
+
+pub not-each-way : Sheets (countedBy eachWay) → ⊥
+unfolding turned zip zipWith
+not-each-way = caught (countedBy eachWay) (text "P" ∷ []) (text "ABA" ∷ []) room refl
+
+-- AB and ABA, on which AB passes turned too
+pub not-given-way : Sheets (countedBy givenWay) → ⊥
+unfolding turned zip zipWith
+not-given-way = caught (countedBy givenWay) two (text "AB" ∷ text "ABA" ∷ []) room refl
+
+-- the next k starts are left out
+abbrev apartFrom : ℕ → List ℕ → List ℕ → ℕ
+apartFrom k c [] = 0
+apartFrom zero c (b ∷ s) =
+    pick (begins c (b ∷ s) || begins (turned c) (b ∷ s)) (suc (apartFrom (length c - 1) c s)) (apartFrom zero c s)
+apartFrom (suc k) c (b ∷ s) = apartFrom k c s
+
+-- AA and AAA, on which AA overlaps itself
+pub not-apart : Sheets (countedBy (apartFrom 0)) → ⊥
+unfolding turned zip zipWith
+not-apart = caught (countedBy (apartFrom 0)) two (text "AA" ∷ text "AAA" ∷ []) room refl
+
+abbrev leftOut : List (List ℕ) → List ℕ → List ℕ → List (List ℕ)
+leftOut cs c s = []
+
+pub not-left-out : Sheets (placesBy leftOut) → ⊥
+unfolding turned zip zipWith
+not-left-out = caught (placesBy leftOut) (text "P" ∷ []) (text "AB" ∷ []) room refl
+
+abbrev earlierText : List (List ℕ) → List (List ℕ) → List ℕ
+earlierText names codes =
+    let rows = rowsBy listed fieldText (placeOf turned 0) decimal standing leftOut in
+    text "name,way,start,bands\r\n" ++ rows codes (ribbonFor turned codes) (zip names codes)
+
+pub not-earlier-sheet : Sheets (callBy checked earlierText) → ⊥
+unfolding turned zip zipWith
+not-earlier-sheet = caught (callBy checked earlierText) (text "P" ∷ []) (text "AB" ∷ []) room refl
 
 -- The list: names not checked, on a name used twice; every list turned away; the retired number, 14, where several codes share
 -- nothing, as if no join of overlap 0 were allowed, on A and B.

@@ -1,4 +1,4 @@
--- A sheet read back: what meets the claim on a sheet is, row for row, a row of the grammar with these four fields, and
+-- A sheet read back: what meets the claim on a sheet is, row for row, a row of the grammar with these five fields, and
 -- the row reader gives the fields of a row of the grammar.
 use mathlib.Core.Path.{refl}
 use mathlib.Core.List.{List, [], _∷_, _++_, append-assoc}
@@ -13,8 +13,8 @@ use Rattle.grammar.specs.Grammar.{Text, Field, unquoted, one, more, line, RowAt
 use Rattle.grammar.proofs.Scan.{scan-row}
 use Rattle.grammar.proofs.Quoting.{written-field}
 use Rattle.sheets.specs.Decimal.{Digits, one-digit, one-more}
-use Rattle.sheets.specs.Sheet.{PlaceFor, as-given, as-turned, row-for, RowsFor, none, next, SheetFor}
-use Rattle.sheets.specs.Sheet.{heading-first}
+use Rattle.sheets.specs.Sheet.{fiveFields, PlaceFor, as-given, as-turned, PlacesFor, so-often, row-for, RowsFor}
+use Rattle.sheets.specs.Sheet.{none, next, SheetFor, heading-first}
 use Rattle.sheets.specs.ReadBack.{ReadsAs, at-end, one-row, no-codes, one-code, FieldsFor, ReadsBack}
 
 -- what the fields after the name are made of
@@ -30,17 +30,19 @@ place-text : {code ribbon way start bands : List ℕ} → PlaceFor code ribbon w
 place-text {code} (as-given p d) h = (omega arith, digits-text d, bands-text code h)
 place-text {code} (as-turned p d) h = (omega arith, digits-text d, turned-each Text code (bands-text code h))
 
+places-text : {code ribbon places : List ℕ} → PlacesFor code ribbon places → Each Text places
+places-text (so-often q d) = digits-text d
+
 -- so a row is one, and what comes after it comes after it
-row-at : (field way start bands rest : List ℕ) {name : List ℕ} → Field field name
-    → Each Text way × Each Text start × Each Text bands
-    → RowAt ((field ++ (comma ∷ (way ++ (comma ∷ (start ++ (comma ∷ (bands ++ lineBreak))))))) ++ rest)
-    (name ∷ way ∷ start ∷ bands ∷ []) rest
-row-at field way start bands rest f (w, s, b) =
+row-at : (field way start bands places rest : List ℕ) {name : List ℕ} → Field field name
+    → Each Text way × Each Text start × Each Text bands → Each Text places
+    → RowAt (fiveFields field way start bands places ++ rest) (name ∷ way ∷ start ∷ bands ∷ places ∷ []) rest
+row-at field way start bands places rest f (w, s, b) p =
     record {
-      written = field ++ (comma ∷ (way ++ (comma ∷ (start ++ (comma ∷ bands)))));
+      written = field ++ (comma ∷ (way ++ (comma ∷ (start ++ (comma ∷ (bands ++ (comma ∷ places)))))));
       after = lineBreak ++ rest;
       parts = simp append-assoc;
-      is-row = more f (more (unquoted w) (more (unquoted s) (one (unquoted b))));
+      is-row = more f (more (unquoted w) (more (unquoted s) (more (unquoted b) (one (unquoted p)))));
       ends = line;
     }
 
@@ -48,10 +50,10 @@ row-at field way start bands rest f (w, s, b) =
 rows-back : {names codes : List (List ℕ)} {ribbon t : List ℕ} → RowsFor ribbon names codes t → Each (Each Printed) names
     → Each (Each Band) codes → (rows : List (List (List ℕ))) × FieldsFor ribbon names codes rows × ReadsAs t rows
 rows-back none n c = ([], no-codes, at-end)
-rows-back (next {name} {rows} (row-for {field} {way} {start} {bands} w p) rs) (n, ns) (c, cs) =
+rows-back (next {name} {rows} (row-for {field} {way} {start} {bands} {places} w p k) rs) (n, ns) (c, cs) =
     let (fields, right, read) = rows-back rs ns cs in
-    let r = row-at field way start bands rows (written-field n w) (place-text p c) in
-    ((name ∷ way ∷ start ∷ bands ∷ []) ∷ fields, one-code p right, one-row (scan-row r) read)
+    let r = row-at field way start bands places rows (written-field n w) (place-text p c) (places-text k) in
+    ((name ∷ way ∷ start ∷ bands ∷ places ∷ []) ∷ fields, one-code p k right, one-row (scan-row r) read)
 
 pub reads-back : {names codes : List (List ℕ)} {ribbon sheet : List ℕ} → SheetFor names codes ribbon sheet
     → Each (Each Printed) names → Each (Each Band) codes → ReadsBack names codes ribbon sheet

@@ -1,5 +1,5 @@
--- How much room suffices: a sheet has at most 16,534 bytes, 22 of the heading and 129 for each of at most 128 codes: 50
--- of the name, 6 of the way, 4 of the start, 64 of the bands, three commas and CR LF.
+-- How much room suffices: a sheet has at most 17,181 bytes, 29 of the heading and 134 for each of at most 128 codes: 50
+-- of the name, 6 of the way, 4 of the start, 64 of the bands, 4 of the number of places, four commas and CR LF.
 use mathlib.Core.Path.{_≡_}
 use mathlib.Core.Bool.{true}
 use mathlib.Core.List.{List, [], _∷_}
@@ -12,6 +12,7 @@ use Rattle.words.specs.Turn.{turned}
 use Rattle.words.specs.Place.{is-given, is-turned}
 use Rattle.words.proofs.Turning.{turning}
 use Rattle.words.proofs.Standing.{stands-length}
+use Rattle.words.proofs.Counting.{count-most}
 use Rattle.words.proofs.Deciding.{holds}
 use Rattle.lists.specs.Runs.{codesIn}
 use Rattle.lists.specs.Rules.{CodeRule, NameRule}
@@ -24,8 +25,8 @@ use Rattle.greedy.specs.Layout.{savedBy}
 use Rattle.lists.proofs.Runs.{codes-count}
 use Rattle.greedy.proofs.Room.{ribbon-at-most}
 use Rattle.sheets.specs.Decimal.{Digits, one-digit, one-more}
-use Rattle.sheets.specs.Sheet.{PlaceFor, as-given, as-turned, RowFor, row-for, RowsFor, none, next, SheetFor}
-use Rattle.sheets.specs.Sheet.{heading-first}
+use Rattle.sheets.specs.Sheet.{PlaceFor, as-given, as-turned, PlacesFor, so-often, RowFor, row-for, RowsFor}
+use Rattle.sheets.specs.Sheet.{none, next, SheetFor, heading-first}
 use Rattle.sheets.specs.Answers.{written, sheetFor, sheetOutcome}
 use Rattle.sheets.proofs.Answers.{shows-ours}
 
@@ -59,25 +60,31 @@ place-long {code} (as-turned (is-turned {i} l x h n) d) r m =
     let same = turning .as-long code in
     (omega arith, digits-long d 3 (omega (arith, h .start, stands-length (h .stands), r .0)), omega (arith, r .1))
 
+-- the number of places: at most as many as the ribbon has bands
+places-long : {code ribbon places : List ℕ} → PlacesFor code ribbon places → CodeRule code → length ribbon ≤ 8192
+    → length places ≤ 4
+places-long {code} (so-often q d) r m =
+    digits-long d 3 (omega (arith, count-most (turning .as-long code) (r .0) q))
+
 row-long : {name code ribbon t : List ℕ} → RowFor name code ribbon t → NameRule name → CodeRule code
-    → length ribbon ≤ 8192 → length t ≤ 129
-row-long (row-for {field} {way} {start} {bands} w p) n c m =
+    → length ribbon ≤ 8192 → length t ≤ 134
+row-long (row-for {field} {way} {start} {bands} {places} w p k) n c m =
     let q = place-long p c m in
-    simp length-append (omega (arith, written-long w, n .1, q .0, q .1, q .2))
+    simp length-append (omega (arith, written-long w, n .1, q .0, q .1, q .2, places-long k c m))
 
 rows-long : {names codes : List (List ℕ)} {ribbon t : List ℕ} → RowsFor ribbon names codes t → Each NameRule names
-    → Each CodeRule codes → length ribbon ≤ 8192 → length t ≤ 129 * length codes
+    → Each CodeRule codes → length ribbon ≤ 8192 → length t ≤ 134 * length codes
 rows-long none n c m = omega arith
 rows-long (next {row} {rows} r rs) (n, ns) (c, cs) m =
     omega (arith, length-append row rows, row-long r n c m, rows-long rs ns cs m)
 
 sheet-long : {names codes : List (List ℕ)} {ribbon t : List ℕ} → SheetFor names codes ribbon t → Each NameRule names
-    → Each CodeRule codes → length ribbon ≤ 8192 → length t ≤ 22 + 129 * length codes
+    → Each CodeRule codes → length ribbon ≤ 8192 → length t ≤ 29 + 134 * length codes
 sheet-long (heading-first {rows} rs) n c m = omega (arith, rows-long rs n c m)
 
 module _ (run ls name-run name-ls : List ℕ) (ok : listOk run ls ≡ true)
     (names-ok : namesOk (length ls) name-run name-ls ≡ true) where
-  pub sheet-at-most : length (sheetFor run ls name-run name-ls) ≤ 16534
+  pub sheet-at-most : length (sheetFor run ls name-run name-ls) ≤ 17181
   sheet-at-most =
       let C = holds (is-fit-list run ls) ok in
       let N = holds (is-fit-names (length ls) name-run name-ls) names-ok in
@@ -85,7 +92,7 @@ module _ (run ls name-run name-ls : List ℕ) (ok : listOk run ls ≡ true)
       omega (arith, long, codes-count run ls, C .at-most)
 
   -- So every fit list with names is written, into a buffer of that length.
-  pub accepts : (buffer : List ℕ) → 16534 ≤ length buffer
+  pub accepts : (buffer : List ℕ) → 17181 ≤ length buffer
       → sheetOutcome run ls name-run name-ls buffer .answer
       ≡ written (length (sheetFor run ls name-run name-ls)) (savedBy turned (codesIn run ls))
   accepts buffer room =

@@ -14,7 +14,7 @@ use cases::put;
 use cases::put_number;
 
 // the most that a case lends
-pub const MOST_BYTES: usize = 16640;
+pub const MOST_BYTES: usize = 17408;
 
 pub const MOST_NUMBERS: usize = 160;
 

@@ -49,22 +49,22 @@ module _ (front : List ℕ) {t b : List ℕ} {o : ℕ} where
 
 -- A text that shares k bands with b ends in the first k bands of b; so below k it shares what they share.
 module _ {t b : List ℕ} {k : ℕ} (h : Shares t b k) where
-  beginning-held : h .shared ≡ take k b
+  pub beginning-held : h .shared ≡ take k b
   beginning-held = sym (ap (take k) (h .beginning) ∙ take-at (h .shared) (h .more) k (h .size))
 
-  ends-so : t ≡ h .rest ++ take k b
+  pub ends-so : t ≡ h .rest ++ take k b
   ends-so = h .ending ∙ ap (λ (s : List ℕ). h .rest ++ s) beginning-held
 
-  shares-up : {j : ℕ} → Shares (take k b) b j → Shares t b j
+  pub shares-up : {j : ℕ} → Shares (take k b) b j → Shares t b j
   shares-up {j} s = subst (λ (y : List ℕ). Shares y b j) (sym ends-so) (shares-behind (h .rest) s)
 
-  shares-down : {j : ℕ} → j ≤ k → Shares t b j → Shares (take k b) b j
+  pub shares-down : {j : ℕ} → j ≤ k → Shares t b j → Shares (take k b) b j
   shares-down {j} l s =
       let n : length (take k b) ≡ k = sym (ap length beginning-held) ∙ h .size in
       shares-end (h .rest) (omega arith) (subst (λ (y : List ℕ). Shares y b j) ends-so s)
 
 -- One band more.
-shares-longer : {t b : List ℕ} {j x : ℕ} → Shares t b j → Follows b j x → Shares (t ++ (x ∷ [])) b (j + 1)
+pub shares-longer : {t b : List ℕ} {j x : ℕ} → Shares t b j → Follows b j x → Shares (t ++ (x ∷ [])) b (j + 1)
 shares-longer {t} {b} {j} {x} h f =
     record {
       rest = h .rest;
@@ -81,7 +81,7 @@ shares-longer {t} {b} {j} {x} h f =
         let e : drop j b ≡ getD b j 0 ∷ drop (suc j) b = drop-cons b j 0 (f .0) in
         cc (d, e, f .1)
 
-shares-shorter : {t b : List ℕ} {j x : ℕ} → Shares (t ++ (x ∷ [])) b (suc j) → Shares t b j × Follows b j x
+pub shares-shorter : {t b : List ℕ} {j x : ℕ} → Shares (t ++ (x ∷ [])) b (suc j) → Shares t b j × Follows b j x
 shares-shorter {t} {b} {j} {x} h =
     let n : length (h .rest) ≤ length t = omega (arith, shares-left h, length-append t (x ∷ [])) in
     let u = between (h .rest) (h .shared) t (x ∷ []) (sym (h .ending)) n in
@@ -143,6 +143,9 @@ shares-itself {b} {m} l =
 holds-no-more : {b : List ℕ} {m j : ℕ} → m ≤ length b → Shares (take m b) b j → j ≤ m
 holds-no-more {b} {m} l s = omega (arith, shares-left s, length-take-le m b l)
 
+pub held-itself : {b : List ℕ} {m : ℕ} → m ≤ length b → Longest (take m b) b m
+held-itself l = record { shares = shares-itself l; most = λ j s. holds-no-more l s }
+
 -- All that counts of a text is the match that is held at its end: what that and x hold, the text and x hold.
 pub advances-so : {b : List ℕ} (m x : ℕ) {r : ℕ} → Longest (take m b ++ (x ∷ [])) b r → Advances b m x r
 advances-so {b} m x {r} g t h = record { shares = up (g .shares); most = most }
@@ -169,7 +172,7 @@ advances-so {b} m x {r} g t h = record { shares = up (g .shares); most = most }
 -- a match grows by one band at most
 pub advances-one : {b : List ℕ} {m x r : ℕ} → m ≤ length b → Advances b m x r → r ≤ m + 1
 advances-one {b} {m} {x} {r} l f =
-    let g = f (take m b) (record { shares = shares-itself l; most = λ j s. holds-no-more l s }) in
+    let g = f (take m b) (held-itself l) in
     omega (arith, shares-left (g .shares), length-append (take m b) (x ∷ []), length-take-le m b l)
 
 -- Falling back from m to k: the first m bands end with the first k, and of the longer beginnings with which they end none is

@@ -12,7 +12,7 @@ use Rattle.words.specs.Tests.{pick, same}
 use Rattle.words.specs.Turn.{turned, Turns}
 use Rattle.words.specs.Stand.{begins}
 use Rattle.words.specs.Overlap.{Overlaps, overlapFrom, overlap}
-use Rattle.words.specs.Place.{Place, given-at, turned-at, nowhere, Finds, placeFrom, placeOf, found}
+use Rattle.words.specs.Place.{Place, given-at, turned-at, nowhere, Finds, placeFrom, placePast, placeOf, found}
 use Rattle.words.specs.Texts.{text}
 use Rattle.words.proofs.Tests.{differ}
 use Rattle.words.proofs.Turning.{turns-only}
@@ -110,24 +110,40 @@ earlier p q = choice (found p) p q
 abbrev later : Place → Place → Place
 later p q = choice (found q) q p
 
--- the right one; one direction only; turned before given; the last start; starts counted from 1
-abbrev smallest : List ℕ → List ℕ → Place
-smallest = searchFrom givenFirst earlier 0
+-- from a first start k on: a search of what is left, whose first band has the number i
+abbrev past : (ℕ → List ℕ → List ℕ → Place) → ℕ → ℕ → List ℕ → List ℕ → Place
+past search i zero c s = search i c s
+past search i (suc k) c [] = nowhere
+past search i (suc k) c (b ∷ s) = past search (suc i) k c s
 
-abbrev oneDirection : List ℕ → List ℕ → Place
-oneDirection = searchFrom givenOnly earlier 0
+-- the right one; one direction only; turned before given; the last start; starts counted from 1, or from the first start;
+-- the first start left out; the search begun behind the first start
+abbrev smallest : ℕ → List ℕ → List ℕ → Place
+smallest = past (searchFrom givenFirst earlier) 0
 
-abbrev turnedBefore : List ℕ → List ℕ → Place
-turnedBefore = searchFrom turnedFirst earlier 0
+abbrev oneDirection : ℕ → List ℕ → List ℕ → Place
+oneDirection = past (searchFrom givenOnly earlier) 0
 
-abbrev lastStart : List ℕ → List ℕ → Place
-lastStart = searchFrom givenFirst later 0
+abbrev turnedBefore : ℕ → List ℕ → List ℕ → Place
+turnedBefore = past (searchFrom turnedFirst earlier) 0
 
-abbrev fromOne : List ℕ → List ℕ → Place
-fromOne = searchFrom givenFirst earlier 1
+abbrev lastStart : ℕ → List ℕ → List ℕ → Place
+lastStart = past (searchFrom givenFirst later) 0
 
-pub smallest-is-ours : (c s : List ℕ) → smallest c s ≡ placeOf turned c s
-smallest-is-ours c s = from 0 s
+abbrev fromOne : ℕ → List ℕ → List ℕ → Place
+fromOne = past (searchFrom givenFirst earlier) 1
+
+abbrev fromFirst : ℕ → List ℕ → List ℕ → Place
+fromFirst = past (λ i. searchFrom givenFirst earlier 0) 0
+
+abbrev noFirst : ℕ → List ℕ → List ℕ → Place
+noFirst k = searchFrom givenFirst earlier 0
+
+abbrev behindFirst : ℕ → List ℕ → List ℕ → Place
+behindFirst k = smallest (suc k)
+
+pub smallest-is-ours : (k : ℕ) (c s : List ℕ) → smallest k c s ≡ placeOf turned k c s
+smallest-is-ours k c s = over k 0 s
   where
     or-later : (i : ℕ) (t u : Bool) {p q : Place} → p ≡ q
         → earlier (choice t (given-at i) (choice u (turned-at i) nowhere)) p
@@ -140,30 +156,56 @@ smallest-is-ours c s = from 0 s
     from i [] = refl
     from i (b ∷ r) = or-later i (begins c (b ∷ r)) (begins (turned c) (b ∷ r)) (from (suc i) r)
 
+    over : (k i : ℕ) (r : List ℕ) → past (searchFrom givenFirst earlier) i k c r ≡ placePast turned k i c r
+    over zero i r = from i r
+    over (suc k) i [] = refl
+    over (suc k) i (b ∷ r) = over k (suc i) r
+
 pub not-one-direction : Finds turned oneDirection → ⊥
 unfolding turned
 not-one-direction h =
-    let e : nowhere ≡ turned-at 0 = finds-only oneDirection h (text "AB") (text "BA") in
+    let e : nowhere ≡ turned-at 0 = finds-only oneDirection h 0 (text "AB") (text "BA") in
     let z : _≡_ {A = ℕ} 0 1 = cc in
     omega arith
 
 pub not-turned-before : Finds turned turnedBefore → ⊥
 unfolding turned
 not-turned-before h =
-    let e : turned-at 0 ≡ given-at 0 = finds-only turnedBefore h (text "A") (text "A") in
+    let e : turned-at 0 ≡ given-at 0 = finds-only turnedBefore h 0 (text "A") (text "A") in
     let z : _≡_ {A = ℕ} 0 1 = cc in
     omega arith
 
 pub not-last-start : Finds turned lastStart → ⊥
 unfolding turned
 not-last-start h =
-    let e : given-at 1 ≡ given-at 0 = finds-only lastStart h (text "A") (text "AA") in
+    let e : given-at 1 ≡ given-at 0 = finds-only lastStart h 0 (text "A") (text "AA") in
     let z : _≡_ {A = ℕ} 1 0 = cc in
     omega arith
 
 pub not-from-one : Finds turned fromOne → ⊥
 unfolding turned
 not-from-one h =
-    let e : given-at 1 ≡ given-at 0 = finds-only fromOne h (text "A") (text "A") in
+    let e : given-at 1 ≡ given-at 0 = finds-only fromOne h 0 (text "A") (text "A") in
     let z : _≡_ {A = ℕ} 1 0 = cc in
+    omega arith
+
+pub not-from-first : Finds turned fromFirst → ⊥
+unfolding turned
+not-from-first h =
+    let e : given-at 0 ≡ given-at 1 = finds-only fromFirst h 1 (text "A") (text "AA") in
+    let z : _≡_ {A = ℕ} 0 1 = cc in
+    omega arith
+
+pub not-no-first : Finds turned noFirst → ⊥
+unfolding turned
+not-no-first h =
+    let e : given-at 0 ≡ given-at 1 = finds-only noFirst h 1 (text "A") (text "AA") in
+    let z : _≡_ {A = ℕ} 0 1 = cc in
+    omega arith
+
+pub not-behind-first : Finds turned behindFirst → ⊥
+unfolding turned
+not-behind-first h =
+    let e : nowhere ≡ given-at 0 = finds-only behindFirst h 0 (text "A") (text "A") in
+    let z : _≡_ {A = ℕ} 0 1 = cc in
     omega arith

@@ -8,8 +8,11 @@ pub mod Overlaps
 pub mod Falling
 pub mod FallBacks
 pub mod Placing
+pub mod Starting
+pub mod Counting
 pub mod Ways
 pub mod Written
 pub mod Partly
 pub mod Impostors
 pub mod WrongPasses
+pub mod WrongCounts

@@ -1,10 +1,11 @@
--- What is in a list, and what holds of each of a list, by its parts.
-use mathlib.Core.Path.{_≡_, refl, ap}
+-- What is in a list, and what holds of each of a list, by its parts. Numbers in rising order are told by which they are.
+use mathlib.Core.Path.{_≡_, refl, sym, ap}
 use mathlib.Core.Logic.{_⊎_, inl, inr}
 use mathlib.Core.List.{List, [], _∷_, _++_, map}
-use Prim.Native.Nat.{ℕ, zero, suc}
-use lib.ListN.{take, drop, getD}
-use Rattle.words.specs.Lists.{In, Each}
+use Prim.Native.Nat.{ℕ, zero, suc, _+_, _≤_, _<_}
+use native.Mathlib.Omega.{arith}
+use lib.ListN.{length, take, drop, getD}
+use Rattle.words.specs.Lists.{In, Each, Rising}
 
 module _ {A : Type 0} where
   pub in-left : (x : A) (xs ys : List A) → In x xs → In x (xs ++ ys)
@@ -70,3 +71,40 @@ module _ {A : Type 0} (P : A → Type 0) where
 pub each-map : {A : Type 0} (P Q : A → Type 0) → ((x : A) → P x → Q x) → (xs : List A) → Each P xs → Each Q xs
 each-map P Q f [] h = tt
 each-map P Q f (x ∷ xs) h = (f x (h .0), each-map P Q f xs (h .1))
+
+-- Two rising lists of the same numbers are the same.
+pub rising-same : (p q : List ℕ) → Rising p → Rising q → ((i : ℕ) → In i p → In i q) → ((i : ℕ) → In i q → In i p) → p ≡ q
+rising-same [] [] r s u v = refl
+rising-same [] (j ∷ q) r s u v = absurd (v j (inl refl))
+rising-same (i ∷ p) [] r s u v = absurd (u i (inl refl))
+rising-same (i ∷ p) (j ∷ q) r s u v =
+    let e = heads (u i (inl refl)) (v j (inl refl)) in
+    let there : (k : ℕ) → In k p → In k q = λ k x. later k i j q (r .0 k x) e (u k (inr x)) in
+    let back : (k : ℕ) → In k q → In k p = λ k x. later k j i p (s .0 k x) (sym e) (v k (inr x)) in
+    let t = rising-same p q (r .1) (s .1) there back in
+    cc
+  where
+    heads : In i (j ∷ q) → In j (i ∷ p) → i ≡ j
+    heads (inl e) y = e
+    heads (inr x) (inl e) = sym e
+    heads (inr x) (inr y) = absurd (omega (arith, r .0 j y, s .0 i x))
+
+    later : (k m n : ℕ) (l : List ℕ) → m < k → m ≡ n → In k (n ∷ l) → In k l
+    later k m n l h e (inl x) = absurd (omega arith)
+    later k m n l h e (inr x) = x
+
+-- numbers from j on and below k are at most as many as those are
+pub rising-few : (p : List ℕ) (j k : ℕ) → j ≤ k → Rising p → ((i : ℕ) → In i p → (j ≤ i) × (i < k)) → length p + j ≤ k
+rising-few [] j k l r h = omega arith
+rising-few (i ∷ p) j k l r h =
+    let b = h i (inl refl) in
+    omega (arith, b .0, rising-few p (suc i) k (omega (arith, b .1)) (r .1) (λ m x. (r .0 m x, h m (inr x) .1)))
+
+-- a greater number behind them
+pub rising-more : (p : List ℕ) (k : ℕ) → Rising p → ((i : ℕ) → In i p → i < k) → Rising (p ++ (k ∷ []))
+rising-more [] k r h = ((λ j x. absurd x), tt)
+rising-more (i ∷ p) k r h = ((λ j x. go j (in-either j p (k ∷ []) x)), rising-more p k (r .1) (λ j x. h j (inr x)))
+  where
+    go : (j : ℕ) → In j p ⊎ In j (k ∷ []) → i < j
+    go j (inl x) = r .0 j x
+    go j (inr (inl e)) = omega (arith, h i (inl refl))

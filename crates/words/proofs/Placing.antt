@@ -5,7 +5,7 @@ use mathlib.Core.Path.{_≡_, refl, sym, ap, subst, _∙_}
 use mathlib.Core.Logic.{inl, inr}
 use mathlib.Core.Bool.{Bool, true, false}
 use mathlib.Core.List.{List, [], _∷_, _++_}
-use Prim.Native.Nat.{ℕ, suc, _≤_, _<_}
+use Prim.Native.Nat.{ℕ, zero, suc, _+_, _≤_, _<_}
 use native.Mathlib.Numerals.{add-one}
 use native.Mathlib.Omega.{arith}
 use native.Mathlib.Nat.{le-antisymm, le-of-lt}
@@ -13,22 +13,22 @@ use lib.ListN.{length, drop, take, take-append-drop, length-drop}
 use lib.Seq.{length-take-le, drop-at, drop-drop}
 use Rattle.words.specs.Decides.{Decides, yes, no}
 use Rattle.words.specs.Stand.{StandsAt, StandsSomeWay, begins}
-use Rattle.words.specs.Place.{Place, given-at, turned-at, nowhere, Finds, placeFrom, placeOf, found}
+use Rattle.words.specs.Place.{Place, given-at, turned-at, nowhere, Finds, placeFrom, placePast, placeOf, found}
 use Rattle.words.specs.Place.{Neither, NoneBefore, IsPlace, is-given, is-turned, is-nowhere}
 use Rattle.words.proofs.Deciding.{stable, by-cases, decides-via, is-le}
 use Rattle.words.proofs.Standing.{Begins, is-beginning, stands-length}
 
 -- Standing at a start i, by what is left of the row from there.
 module _ {c s : List ℕ} {i : ℕ} where
-  start-within : StandsAt c s i → i ≤ length s
+  pub start-within : StandsAt c s i → i ≤ length s
   start-within h = omega (arith, h .start, stands-length (h .stands))
 
-  left-begins : StandsAt c s i → Begins c (drop i s)
+  pub left-begins : StandsAt c s i → Begins c (drop i s)
   left-begins h =
       let st = h .stands in
       (st .after, ap (drop i) (st .parts) ∙ drop-at (st .before) (c ++ st .after) i (h .start))
 
-  begins-left : i ≤ length s → Begins c (drop i s) → StandsAt c s i
+  pub begins-left : i ≤ length s → Begins c (drop i s) → StandsAt c s i
   begins-left l h =
       record {
         stands = record { before = take i s; after = h .0; parts = cc (take-append-drop i s, h .1) };
@@ -42,6 +42,9 @@ is-standing-at c {s} {r} {i} l e =
     (λ h. begins-left l (subst (Begins c) (sym e) h))
     (λ h. subst (Begins c) e (left-begins h))
     (is-beginning c r)
+
+pub drop-next : (k : ℕ) (s : List ℕ) {r : List ℕ} {b : ℕ} → drop k s ≡ b ∷ r → drop (suc k) s ≡ r
+drop-next k s e = rw (← add-one, ← drop-drop 1 k s, e)
 
 -- The search, from the start k on.
 module _ (turn : List ℕ → List ℕ) (c s : List ℕ) where
@@ -93,15 +96,22 @@ module _ (turn : List ℕ → List ℕ) (c s : List ℕ) where
   place-left [] k l e = by-start nowhere l e (place-nowhere (omega (arith, length-drop k s, ap length e)))
   place-left (b ∷ r) k l e =
       let m : suc k ≤ length s = omega (arith, length-drop k s, ap length e) in
-      let d : drop (suc k) s ≡ r = rw (← add-one, ← drop-drop 1 k s, e) in
-      by-start (placeFrom turn (suc k) c r) l e (λ n. place-later n (place-left r (suc k) m d))
+      by-start (placeFrom turn (suc k) c r) l e (λ n. place-later n (place-left r (suc k) m (drop-next k s e)))
 
-pub place-from : (turn : List ℕ → List ℕ) (k : ℕ) (c s : List ℕ) → k ≤ length s
-    → IsPlace turn k c s (placeFrom turn k c (drop k s))
-place-from turn k c s l = place-left turn c s (drop k s) k l refl
+  -- from the start n on, k starts behind i
+  place-past : (k i n : ℕ) (r : List ℕ) → i + k ≡ n → i ≤ length s → drop i s ≡ r → IsPlace turn n c s (placePast turn k i c r)
+  place-past zero i n r q l e =
+      let o : i ≡ n = omega arith in
+      subst (λ (m : ℕ). IsPlace turn m c s (placeFrom turn i c r)) o (place-left r i l e)
+  place-past (suc k) i n [] q l e =
+      let o : length s ≤ i = omega (arith, length-drop i s, ap length e) in
+      is-nowhere (λ j m. beyond (omega arith))
+  place-past (suc k) i n (b ∷ r) q l e =
+      let m : suc i ≤ length s = omega (arith, length-drop i s, ap length e) in
+      place-past k (suc i) n r (omega arith) m (drop-next i s e)
 
 pub finds-ours : (turn : List ℕ → List ℕ) → Finds turn (placeOf turn)
-finds-ours turn c s = place-from turn 0 c s (omega arith)
+finds-ours turn k c s = place-past turn c s k 0 k s (omega arith) (omega arith) refl
 
 -- No freedom: two smallest starts are one, and at one start the way is settled.
 -- i is the smallest start from k on at which some way stands
@@ -137,12 +147,12 @@ module _ {turn : List ℕ → List ℕ} {k : ℕ} {c s : List ℕ} where
   place-one (is-nowhere n) (is-turned m x g o) = absurd (n _ m .not-turned g)
   place-one (is-nowhere n) (is-nowhere o) = refl
 
-pub place-is : {turn : List ℕ → List ℕ} {c s : List ℕ} {p : Place} → IsPlace turn 0 c s p → p ≡ placeOf turn c s
-place-is {turn} {c} {s} h = place-one h (finds-ours turn c s)
+pub place-is : {turn : List ℕ → List ℕ} {k : ℕ} {c s : List ℕ} {p : Place} → IsPlace turn k c s p → p ≡ placeOf turn k c s
+place-is {turn} {k} {c} {s} h = place-one h (finds-ours turn k c s)
 
-pub finds-only : {turn : List ℕ → List ℕ} (find : List ℕ → List ℕ → Place) → Finds turn find → (c s : List ℕ)
-    → find c s ≡ placeOf turn c s
-finds-only find h c s = place-is (h c s)
+pub finds-only : {turn : List ℕ → List ℕ} (find : ℕ → List ℕ → List ℕ → Place) → Finds turn find → (k : ℕ) (c s : List ℕ)
+    → find k c s ≡ placeOf turn k c s
+finds-only find h k c s = place-is (h k c s)
 
 -- A word has a place exactly if it stands some way.
 place-found : {turn : List ℕ → List ℕ} {c s : List ℕ} {p : Place} → IsPlace turn 0 c s p
@@ -156,5 +166,5 @@ place-found (is-nowhere n) =
     ])
 
 pub found-exactly : (turn : List ℕ → List ℕ) (c s : List ℕ)
-    → Decides (StandsSomeWay turn c s) (found (placeOf turn c s))
-found-exactly turn c s = place-found (finds-ours turn c s)
+    → Decides (StandsSomeWay turn c s) (found (placeOf turn 0 c s))
+found-exactly turn c s = place-found (finds-ours turn 0 c s)

@@ -9,4 +9,5 @@ pub mod Stand
 pub mod Overlap
 pub mod Falling
 pub mod Place
+pub mod Count
 pub mod Texts

@@ -2,6 +2,7 @@
 use mathlib.Core.Path.{_≡_}
 use mathlib.Core.Logic.{_⊎_}
 use mathlib.Core.List.{List, [], _∷_}
+use Prim.Native.Nat.{ℕ, _<_}
 
 module _ {A : Type 0} where
   -- x is one of the list
@@ -18,3 +19,8 @@ module _ {A : Type 0} where
   abbrev pub Once : List A → Type 0
   Once [] = Unit {0}
   Once (x ∷ xs) = (In x xs → ⊥) × Once xs
+
+-- numbers in rising order
+abbrev pub Rising : List ℕ → Type 0
+Rising [] = Unit {0}
+Rising (i ∷ p) = ((j : ℕ) → In j p → i < j) × Rising p

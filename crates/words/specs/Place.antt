@@ -2,14 +2,9 @@
 -- given where both stand.
 use mathlib.Core.Bool.{Bool, true, false}
 use mathlib.Core.List.{List, [], _∷_}
-use Prim.Native.Nat.{ℕ, suc, _≤_, _<_}
-use Rattle.words.specs.Stand.{StandsAt, begins}
-
--- the smallest start below a limit at which c stands on s; the limit where there is none
-pub record FirstStart (c s : List ℕ) (limit i : ℕ) : Type 0 where
-  pub within : i ≤ limit
-  pub stands : i < limit → StandsAt c s i
-  pub none-before : (j : ℕ) → j < i → StandsAt c s j → ⊥
+use Prim.Native.Nat.{ℕ, zero, suc, _≤_, _<_}
+use lib.ListN.{length}
+use Rattle.words.specs.Stand.{StandsAt, StandsHere, begins}
 
 -- as given at a start, turned at a start, or no place
 pub data Place : Type 0 where
@@ -22,6 +17,12 @@ pub record Neither (turn : List ℕ → List ℕ) (c s : List ℕ) (i : ℕ) : T
   pub not-given : StandsAt c s i → ⊥
   pub not-turned : StandsAt (turn c) s i → ⊥
 
+-- the smallest start from k on at which either way stands; a start behind the row where there is none
+pub record FirstStart (turn : List ℕ → List ℕ) (k : ℕ) (c s : List ℕ) (i : ℕ) : Type 0 where
+  pub from-on : k ≤ i
+  pub stands : i ≤ length s → StandsHere turn c s i
+  pub none-before : (j : ℕ) → k ≤ j → j < i → Neither turn c s j
+
 -- The claim that pins the search, for a way to turn and a first start k: the smallest place from k on, or none.
 module _ (turn : List ℕ → List ℕ) (k : ℕ) (c s : List ℕ) where
   abbrev pub NoneBefore : ℕ → Type 0
@@ -32,9 +33,9 @@ module _ (turn : List ℕ → List ℕ) (k : ℕ) (c s : List ℕ) where
     is-turned : {i : ℕ} → k ≤ i → (StandsAt c s i → ⊥) → StandsAt (turn c) s i → NoneBefore i → IsPlace (turned-at i)
     is-nowhere : ((j : ℕ) → k ≤ j → Neither turn c s j) → IsPlace nowhere
 
--- a search that finds each word's place on each row
-abbrev pub Finds : (List ℕ → List ℕ) → (List ℕ → List ℕ → Place) → Type 0
-Finds turn find = (c s : List ℕ) → IsPlace turn 0 c s (find c s)
+-- a search that finds each word's place on each row, from each first start on
+abbrev pub Finds : (List ℕ → List ℕ) → (ℕ → List ℕ → List ℕ → Place) → Type 0
+Finds turn find = (k : ℕ) (c s : List ℕ) → IsPlace turn k c s (find k c s)
 
 -- The search: s is what is left of the row, and its first band has the number i.
 abbrev pub placeFrom : (List ℕ → List ℕ) → ℕ → List ℕ → List ℕ → Place
@@ -47,8 +48,14 @@ placeFrom turn i c (b ∷ s) = elim (begins c (b ∷ s)) [
   | false ↦ elim (begins (turn c) (b ∷ s)) [ true ↦ turned-at i | false ↦ placeFrom turn (suc i) c s ]
 ]
 
-abbrev pub placeOf : (List ℕ → List ℕ) → List ℕ → List ℕ → Place
-placeOf turn c s = placeFrom turn 0 c s
+-- k starts more are passed over; behind the row there is none
+abbrev pub placePast : (List ℕ → List ℕ) → ℕ → ℕ → List ℕ → List ℕ → Place
+placePast turn zero i c s = placeFrom turn i c s
+placePast turn (suc k) i c [] = nowhere
+placePast turn (suc k) i c (b ∷ s) = placePast turn k (suc i) c s
+
+abbrev pub placeOf : (List ℕ → List ℕ) → ℕ → List ℕ → List ℕ → Place
+placeOf turn k c s = placePast turn k 0 c s
 
 abbrev pub found : Place → Bool
 found (given-at i) = true

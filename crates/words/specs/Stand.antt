@@ -22,6 +22,10 @@ pub record StandsAt (c s : List ℕ) (i : ℕ) : Type 0 where
 abbrev pub StandsSomeWay : (List ℕ → List ℕ) → List ℕ → List ℕ → Type 0
 StandsSomeWay turn c s = Stands c s ⊎ Stands (turn c) s
 
+-- one way or the other stands at the start i
+abbrev pub StandsHere : (List ℕ → List ℕ) → List ℕ → List ℕ → ℕ → Type 0
+StandsHere turn c s i = StandsAt c s i ⊎ StandsAt (turn c) s i
+
 -- The tests of it.
 abbrev pub begins : List ℕ → List ℕ → Bool
 begins [] s = true

@@ -21,13 +21,15 @@ use Rattle.lists.specs.Fit.{listOk, namesOk}
 use Rattle.lists.proofs.Runs.{codes-count}
 use Rattle.greedy.specs.Dropping.{codeAt}
 use Rattle.greedy.specs.Rules.{AllStand}
-use Rattle.greedy.specs.Layout.{ribbonFor, savedBy}
+use Rattle.greedy.specs.Layout.{savedBy}
 use Rattle.greedy.proofs.Claims.{each-laid}
 use Rattle.greedy.proofs.Room.{ribbon-at-most}
 use Rattle.places.specs.Calls.{FindsPlaces}
-use Rattle.places.specs.declared.Place as declared
+use Rattle.places.specs.declared.Place.{Place}
 use Rattle.checking.proofs.Check.{stands-at}
+use Rattle.sheet_rows.specs.Shows.{ShowsCodes}
 use Rattle.sheet_rows.specs.Placed.{RowsThere, placedSheet}
+use Rattle.sheet_rows.specs.declared.Shown.{Shown}
 use Rattle.sheets.specs.Answers.{SheetAnswer, SheetOutcome, refused, written, SheetsInto, sheetFor, sheetOutcome}
 use Rattle.sheet_rows.proofs.Placed.{placed-is-sheet, rows-there}
 use Rattle.sheets.proofs.Room.{sheet-at-most}
@@ -61,9 +63,9 @@ module _ (run ls name-run name-ls : List ℕ) {size : ℕ} (long : size ≡ leng
 pub ribbon-short : {run ls name-run name-ls ribbon : List ℕ} → Ready run ls name-run name-ls ribbon → length ribbon ≤ 16384
 ribbon-short {run} {ls} h = omega (arith, ap length (h .laid), ribbon-at-most run ls (h .list-fits))
 
--- and the records that were found on it
+-- the records that were found on it are those of all codes
 module _ {run ls name-run name-ls ribbon : List ℕ} (h : Ready run ls name-run name-ls ribbon) {count : ℕ}
-    {all : List declared.Place} (f : FindsPlaces run ls ribbon count all) where
+    {all : List Place} (f : FindsPlaces run ls ribbon count all) where
   abbrev cs : List (List ℕ)
   cs = codesIn run ls
 
@@ -75,24 +77,22 @@ module _ {run ls name-run name-ls ribbon : List ℕ} (h : Ready run ls name-run 
       let stands = stands-at turned cs ribbon count (omega (arith, codes-count run ls)) all-stand in
       true≢false (sym (passes (found-exactly turned (codeAt cs count) ribbon) stands) ∙ f .stops l)
 
-  each-placed : FindsPlaces run ls (ribbonFor turned cs) (length ls) all
+  pub each-placed : FindsPlaces run ls ribbon (length ls) all
   each-placed =
       let e : count ≡ length ls = omega (arith, f .within, not-lt none-missing) in
-      subst (λ (r : List ℕ). FindsPlaces run ls r (length ls) all) (h .laid)
-      (subst (λ (n : ℕ). FindsPlaces run ls ribbon n all) e f)
+      subst (λ (n : ℕ). FindsPlaces run ls ribbon n all) e f
 
+-- and by what is shown of them the sheet is the list's
+module _ {run ls name-run name-ls ribbon : List ℕ} (h : Ready run ls name-run name-ls ribbon) {all : List Shown}
+    (f : ShowsCodes run ls ribbon all) where
   pub there : RowsThere name-run name-ls ls all ribbon
-  there =
-      subst (RowsThere name-run name-ls ls all) (sym (h .laid))
-      (rows-there run ls name-run name-ls all (h .list-fits) (h .names-fit) each-placed)
+  there = rows-there run ls name-run name-ls (h .list-fits) f (h .names-fit)
 
   sheet-is : placedSheet (codesIn name-run name-ls) ls all ribbon ≡ sheetFor run ls name-run name-ls
-  sheet-is =
-      ap (placedSheet (codesIn name-run name-ls) ls all) (h .laid)
-      ∙ placed-is-sheet run ls name-run name-ls all (h .list-fits) (h .names-fit) each-placed
+  sheet-is = placed-is-sheet run ls name-run name-ls (h .list-fits) f (h .laid)
 
   module _ {size : ℕ} (e : size ≡ length (placedSheet (codesIn name-run name-ls) ls all ribbon)) where
-    pub size-short : size ≤ 16534
+    pub size-short : size ≤ 17181
     size-short = omega (arith, e, ap length sheet-is, sheet-at-most run ls name-run name-ls (h .list-fits) (h .names-fit))
 
     module _ (saved : ℕ) (buffer : List ℕ) where

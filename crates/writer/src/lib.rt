@@ -9,6 +9,7 @@ use lists::Refusal;
 use pages::put_sheet;
 use places::find_places;
 use sheet_rows::sheet_size;
+use sheet_rows::show_codes;
 
 // The sheet's length and what its ribbon saves; or the refusal, 12 or 13.
 pub enum Wrote {
@@ -41,11 +42,12 @@ fn write_laid(
 {
     let sought = find_places(bands, lengths, ribbon);
     let records = sought.records;
-    let size = sheet_size(names, sizes, lengths, records, ribbon);
+    let shown = show_codes(bands, lengths, ribbon, records);
+    let size = sheet_size(names, sizes, lengths, shown, ribbon);
     if out.len() < size {
         return refused(lists::SHORT_BUFFER);
     }
-    put_sheet(names, sizes, lengths, records, ribbon, out);
+    put_sheet(names, sizes, lengths, shown, ribbon, out);
     Wrote::Sheet {
         bytes: size as u32,
         saved,

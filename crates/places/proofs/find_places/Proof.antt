@@ -39,7 +39,7 @@ place-of-requires : tie.Need-place-of-requires Inv-loop μ-loop
 place-of-requires c κs =
     let k = c .before .before .before .before .before .before .before in
     let n = next-fits (c .before .before .loop .inv) (k .pre .0) (c .before .loop-test .taken) in
-    (n .0, n .1)
+    (n .0, n .1, n .3, n .4)
 
 is-nowhere-requires : tie.Need-is-nowhere-requires Inv-loop μ-loop
 is-nowhere-requires c κs = search needs

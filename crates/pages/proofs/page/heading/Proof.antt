@@ -100,7 +100,7 @@ module _ {M : Type 1} (𝓤 : URA M) (H : Heap 𝓤) (A : Atoms 𝓤) (W : Given
   to ν δ = (((ν ∷ [], tt), (fullShare, tt), tt, (x δ ys, (n, tt)), (s ∷ [], (vint w64 n ∷ [], tt))), tt)
 
   abbrev Asked : Type 0
-  Asked = n + 22 ≤ length ys
+  Asked = n + 29 ≤ length ys
 
   goes : (ν : ℕ) (δ : GName) → Asked → ent 𝓤 (sep 𝓤 (A .lft (ν ∷ []) fullShare) (sem 𝓤 H A (MutSlice (named 0) (ν ∷ []) u8 .own (x δ ys) (s ∷ [])))) (PutHeading 𝓤 H A mem run .pre (to ν δ))
   goes ν δ room =
@@ -163,7 +163,7 @@ module _ {M : Type 1} (𝓤 : URA M) (H : Heap 𝓤) (A : Atoms 𝓤) (W : Given
   heading-walks : (C : Calls 𝓤 H) (Λ : Loops 𝓤 H) → FmC 𝓤 H (W .laws) C → Triple 𝓤 (C #sheet-rows·put-heading) (PutHeading 𝓤 H A mem run) → Walks 𝓤 H A heading.ended stayed (WpFn 𝓤 H C Λ code.function) (heading.clauses 𝓤 H A mem run)
   heading-walks C Λ fm known = walked 𝓤 H A heading.ended stayed (heading.clauses 𝓤 H A mem run) (WpFn 𝓤 H C Λ code.function)
       (λ κs. (LL.vals (T.the-type (namedLft 1 0 tt κs)) (T′.the-laws (namedLft 1 0 tt κs)), tt)) (λ κs. (LL.tells (T.the-type (namedLft 1 0 tt κs)) (T′.the-laws (namedLft 1 0 tt κs)), tt))
-      (λ κs qs bounds a g are. needs 𝓤 (a .0 .mark + 22 ≤ length (a .0 .out .now)) _ (λ within.
+      (λ κs qs bounds a g are. needs 𝓤 (a .0 .mark + 29 ≤ length (a .0 .out .now)) _ (λ within.
       let fields = LL.owed (T.the-type (namedLft 1 0 tt κs)) (T′.the-laws (namedLft 1 0 tt κs)) (a .0) _ (are .0) in
       walk 𝓤 H A W mem run (κs .0) (qs .0) (a .0 .out .ptr .0) (a .0 .out .ptr .1) (a .0 .out .name) (a .0 .out .now) (a .0 .mark) (fields .1 .0 .1) C Λ fm known (are .0) (fields .0 .0 .1) within))
 

@@ -44,9 +44,9 @@ use denote.Exit.{yes}
 use denote.Signature.{plain}
 use Rattle.words.specs.Written.{Written}
 use Rattle.lists.specs.Runs.{codesIn}
-use Rattle.places.specs.declared.Place.{Place}
-use Rattle.places.proofs.Place as P
-use Rattle.places.proofs.Place.Laws as P′
+use Rattle.sheet_rows.specs.declared.Shown.{Shown}
+use Rattle.sheet_rows.proofs.Shown as S
+use Rattle.sheet_rows.proofs.Shown.Laws as S′
 use Rattle.sheets.specs.Sheet.{rowText, sheetHeading}
 use Rattle.sheet_rows.specs.Placed.{RowsThere, placedRows, placedSheet}
 use Rattle.pages.specs.declared.page.Writer.{Writer}
@@ -54,7 +54,7 @@ use Rattle.pages.specs.Filled.{filled, putAt}
 use Rattle.pages.proofs.page.Writer as T
 use Rattle.pages.proofs.page.Writer.Laws as T′
 use Rattle.pages.proofs.Filling.{putAt-length, both-put}
-use Rattle.pages.proofs.Passed.{Records, records-vals, records-val, slice-val, Slices, Five, five-apart, five-made, Four, Ending, token-put, token-taken}
+use Rattle.pages.proofs.Passed.{AllShown, shown-vals, shown-val, slice-val, Slices, Five, five-apart, five-made, Four, Ending, token-put, token-taken}
 use Rattle.pages.proofs.page.begin as begin
 use Rattle.pages.proofs.page.begin.Symbol as begin-def
 use Rattle.pages.proofs.page.begin.Symbol.{name as #pages·page·begin}
@@ -73,7 +73,7 @@ use Rattle.pages.proofs.page.put_sheet.Statement as stated
 use Rattle.pages.proofs.page.put_sheet.Code as code
 
 abbrev stayed : Stays (put-sheet.ended .signature .params) (put-sheet.ended .kept)
-stayed = (stay-none-slice (0 ∷ []) tt (plain (λ _. u8)) yes, (stay-none-slice (1 ∷ []) tt (plain (λ _. u16)) yes, (stay-none-slice (2 ∷ []) tt (plain (λ _. u16)) yes, (stay-none (λ _. Records) yes, (stay-none-slice (3 ∷ []) tt (plain (λ _. u8)) yes, (gave-slice (4 ∷ []) tt (plain (λ _. u8)), tt))))))
+stayed = (stay-none-slice (0 ∷ []) tt (plain (λ _. u8)) yes, (stay-none-slice (1 ∷ []) tt (plain (λ _. u16)) yes, (stay-none-slice (2 ∷ []) tt (plain (λ _. u16)) yes, (stay-none (λ _. AllShown) yes, (stay-none-slice (3 ∷ []) tt (plain (λ _. u8)) yes, (gave-slice (4 ∷ []) tt (plain (λ _. u8)), tt))))))
 
 abbrev head : List ℕ
 head = rowText sheetHeading
@@ -97,11 +97,11 @@ module _ {M : Type 1} (𝓤 : URA M) (H : Heap 𝓤) (A : Atoms 𝓤) (mem : Mem
   heading-of κ h r = exE 𝓤 _ (λ ws. snd∗ 𝓤 (sem 𝓤 H A (lasts heading.ended (κ, tt) (h, tt) ws)) (fact 𝓤 (r ≡ filled h head)))
 
 -- what `put_sheet` asks, of the lists passed
-abbrev Asked : (names sizes ls : List ℕ) (ps : List Place) (ribbon ys : List ℕ) → Type 0
-Asked names sizes ls ps ribbon ys = RowsThere names sizes ls ps ribbon × (length (placedSheet (codesIn names sizes) ls ps ribbon) ≤ length ys)
+abbrev Asked : (names sizes ls : List ℕ) (ss : List Shown) (ribbon ys : List ℕ) → Type 0
+Asked names sizes ls ss ribbon ys = RowsThere names sizes ls ss ribbon × (length (placedSheet (codesIn names sizes) ls ss ribbon) ≤ length ys)
 
 module _ {M : Type 1} (𝓤 : URA M) (H : Heap 𝓤) (A : Atoms 𝓤) (W : Given 𝓤 H A) (mem : Memory → SProp 𝓤) (run : Routine → Fun 𝓤) (κ₀ κ₁ κ₂ κ₃ κ : Lft) (q₀ q₁ q₂ q₃ q : Share)
-    (x₀ x₁ x₂ : RefT (List ℕ)) (xs : List Place) (x₃ : RefT (List ℕ)) (b o : ℕ) (γ : GName) (ys : List ℕ) (xs-is : Is Records xs (records-val xs ∷ [])) (asked : Asked (now x₀) (now x₁) (now x₂) xs (now x₃) ys) where
+    (x₀ x₁ x₂ : RefT (List ℕ)) (xs : List Shown) (x₃ : RefT (List ℕ)) (b o : ℕ) (γ : GName) (ys : List ℕ) (xs-is : Is AllShown xs (shown-val xs ∷ [])) (asked : Asked (now x₀) (now x₁) (now x₂) xs (now x₃) ys) where
   abbrev α : NamedLft
   α = record { mir = named 0; lft = κ }
 
@@ -125,13 +125,13 @@ module _ {M : Type 1} (𝓤 : URA M) (H : Heap 𝓤) (A : Atoms 𝓤) (W : Given
   abbrev ys₁ : List ℕ
   ys₁ = putAt ys 0 head
 
-  size : length (head ++ body) ≡ 22 + length body
+  size : length (head ++ body) ≡ 29 + length body
   size = length-append head body
 
   length-is : length ys₁ ≡ length ys
   length-is = putAt-length ys head 0 (omega (arith, size, asked .1))
 
-  within₀ : 0 + 22 ≤ length ys
+  within₀ : 0 + 29 ≤ length ys
   within₀ = omega (arith, size, asked .1)
 
   within₁ : RowsThere (now x₀) (now x₁) (now x₂) xs (now x₃) × (0 + length head + length body ≤ length ys₁)
@@ -150,13 +150,13 @@ module _ {M : Type 1} (𝓤 : URA M) (H : Heap 𝓤) (A : Atoms 𝓤) (W : Given
   qs = (q₀, (q₁, (q₂, (q₃, (q, tt)))))
 
   abbrev Arg : Type 0
-  Arg = RefT (List ℕ) × (RefT (List ℕ) × (RefT (List ℕ) × (List Place × (RefT (List ℕ) × (RefT (List ℕ) × Unit {0})))))
+  Arg = RefT (List ℕ) × (RefT (List ℕ) × (RefT (List ℕ) × (List Shown × (RefT (List ℕ) × (RefT (List ℕ) × Unit {0})))))
 
   abbrev a : Arg
   a = (x₀, (x₁, (x₂, (xs, (x₃, (x, tt))))))
 
   abbrev vals : List Val × (List Val × (List Val × (List Val × (List Val × (List Val × Unit {0})))))
-  vals = (slice-val x₀ ∷ [], (slice-val x₁ ∷ [], (slice-val x₂ ∷ [], (records-val xs ∷ [], (slice-val x₃ ∷ [], (s ∷ [], tt))))))
+  vals = (slice-val x₀ ∷ [], (slice-val x₁ ∷ [], (slice-val x₂ ∷ [], (shown-val xs ∷ [], (slice-val x₃ ∷ [], (s ∷ [], tt))))))
 
   abbrev Post : Val → SProp 𝓤
   Post = walkOf 𝓤 H A put-sheet.ended stayed (put-sheet.clauses 𝓤 H A mem run) .post ((κs, qs, tt, a, vals), tt)
@@ -203,11 +203,11 @@ module _ {M : Type 1} (𝓤 : URA M) (H : Heap 𝓤) (A : Atoms 𝓤) (W : Given
   abbrev κs′ : Lfts 5
   κs′ = (κ, (κ₀, (κ₁, (κ₂, (κ₃, tt)))))
 
-  abbrev args : Writer × (RefT (List ℕ) × (RefT (List ℕ) × (RefT (List ℕ) × (List Place × (RefT (List ℕ) × Unit {0})))))
+  abbrev args : Writer × (RefT (List ℕ) × (RefT (List ℕ) × (RefT (List ℕ) × (List Shown × (RefT (List ℕ) × Unit {0})))))
   args = (h₁, (x₀, (x₁, (x₂, (xs, (x₃, tt))))))
 
   abbrev to-rows : Val → Rows 𝓤 H A mem run .Ghost
-  to-rows w = ((κs′, (q, (q₀, (q₁, (q₂, (q₃, tt))))), tt, args, (w ∷ [], (slice-val x₀ ∷ [], (slice-val x₁ ∷ [], (slice-val x₂ ∷ [], (records-val xs ∷ [], (slice-val x₃ ∷ [], tt))))))), tt)
+  to-rows w = ((κs′, (q, (q₀, (q₁, (q₂, (q₃, tt))))), tt, args, (w ∷ [], (slice-val x₀ ∷ [], (slice-val x₁ ∷ [], (slice-val x₂ ∷ [], (shown-val xs ∷ [], (slice-val x₃ ∷ [], tt))))))), tt)
 
   asks-rows : (w : Val) → ent 𝓤 (⋆ 𝓤 H A (Toks′ ∷ ‵ (fsep (Has h₁ w) (With ftrue)) ∷ [])) (Rows 𝓤 H A mem run .pre (to-rows w))
   asks-rows w = qed W (Toks′ ∷ ‵ (fsep (Has h₁ w) (With ftrue)) ∷ []) ∵ says ! within₁ $ frame ! $ done !
@@ -233,12 +233,12 @@ module _ {M : Type 1} (𝓤 : URA M) (H : Heap 𝓤) (A : Atoms 𝓤) (W : Given
 
   module _ (C : Calls 𝓤 H) (Λ : Loops 𝓤 H) (fm : FmC 𝓤 H (W .laws) C) (known-begin : Triple 𝓤 (C #pages·page·begin) (Begin 𝓤 H A mem run)) (known-heading : Triple 𝓤 (C #pages·page·heading) (Heading 𝓤 H A mem run)) (known-rows : Triple 𝓤 (C #pages·page·rows) (Rows 𝓤 H A mem run)) where
     walk : Room u8 (length (now x₀)) → Room u16 (length (now x₁)) → Room u16 (length (now x₂)) → Room u8 (length (now x₃)) → Room u8 (length ys)
-        → ent 𝓤 (onEntry 𝓤 H A put-sheet.signature κs qs a vals) (WpFn 𝓤 H C Λ code.function (slice-val x₀ ∷ slice-val x₁ ∷ slice-val x₂ ∷ records-val xs ∷ slice-val x₃ ∷ s ∷ []) Post)
+        → ent 𝓤 (onEntry 𝓤 H A put-sheet.signature κs qs a vals) (WpFn 𝓤 H C Λ code.function (slice-val x₀ ∷ slice-val x₁ ∷ slice-val x₂ ∷ shown-val xs ∷ slice-val x₃ ∷ s ∷ []) Post)
     walk room₀ room₁ room₂ room₃ room =
-        qed W (Toks ∷ ‵ (With (fsep Out ftrue)) ∷ []) ∵ enter ! C Λ code.function (slice-val x₀ ∷ slice-val x₁ ∷ slice-val x₂ ∷ records-val xs ∷ slice-val x₃ ∷ s ∷ []) _ $
+        qed W (Toks ∷ ‵ (With (fsep Out ftrue)) ∷ []) ∵ enter ! C Λ code.function (slice-val x₀ ∷ slice-val x₁ ∷ slice-val x₂ ∷ shown-val xs ∷ slice-val x₃ ∷ s ∷ []) _ $
         alloc1 ! (λ l₀. alloc1 ! (λ l₁. alloc1 ! (λ l₂. alloc1 ! (λ l₃. alloc1 ! (λ l₄. alloc1 ! (λ l₅. alloc1 ! (λ l₆. alloc1 ! (λ l₇. alloc1 ! (λ l₈. alloc1 ! (λ l₉. alloc1 ! (λ l₁₀. alloc1 ! (λ l₁₁. alloc0 ! $ params1 ! $
         pass1 ! (init ! 20 refl (tt, (tt, (record { fits = room₀ .0 }, tt)))) $ pass1 ! (init ! 18 refl (tt, (tt, (record { fits = room₁ .0 }, tt)))) $ pass1 ! (init ! 16 refl (tt, (tt, (record { fits = room₂ .0 }, tt)))) $
-        pass1 ! (init ! 14 refl (array-lawful 𝓤 H A W P.the-row (LL.lawful P.the-type P′.the-laws 𝓤 H A W) 128 .typed xs _ xs-is .0)) $ pass1 ! (init ! 12 refl (tt, (tt, (record { fits = room₃ .0 }, tt)))) $ pass1 ! (init ! 10 refl (tt, (tt, (record { fits = room .0 }, tt)))) $ pass0 ! $
+        pass1 ! (init ! 14 refl (array-lawful 𝓤 H A W S.the-row (LL.lawful S.the-type S′.the-laws 𝓤 H A W) 128 .typed xs _ xs-is .0)) $ pass1 ! (init ! 12 refl (tt, (tt, (record { fits = room₃ .0 }, tt)))) $ pass1 ! (init ! 10 refl (tt, (tt, (record { fits = room .0 }, tt)))) $ pass0 ! $
         -- [_11; …; _10; …; _9; …; _8; …; _7; …; _6; …; _5; …; _4; …; _3; …; _2; …; _1; …; room for _0; …; the tokens; what
         -- the parameters own]
         assigns ! (addr ! (from ! (fld ! refl (hop ! (look-in ! 10 (sub ! 0 refl (whole !))) (stop !))))) (from ! (stop !)) (init ! 4 refl (tt, tt)) $
@@ -283,8 +283,8 @@ module _ {M : Type 1} (𝓤 : URA M) (H : Heap 𝓤) (A : Atoms 𝓤) (W : Given
   put-sheet-walks : (C : Calls 𝓤 H) (Λ : Loops 𝓤 H) → FmC 𝓤 H (W .laws) C → Triple 𝓤 (C #pages·page·begin) (Begin 𝓤 H A mem run) → Triple 𝓤 (C #pages·page·heading) (Heading 𝓤 H A mem run) → Triple 𝓤 (C #pages·page·rows) (Rows 𝓤 H A mem run)
       → Walks 𝓤 H A put-sheet.ended stayed (WpFn 𝓤 H C Λ code.function) (put-sheet.clauses 𝓤 H A mem run)
   put-sheet-walks C Λ fm known-begin known-heading known-rows = walked 𝓤 H A put-sheet.ended stayed (put-sheet.clauses 𝓤 H A mem run) (WpFn 𝓤 H C Λ code.function)
-      (λ κs. (slice-vals, (slice-vals, (slice-vals, (records-vals, (slice-vals, (slice-vals, tt)))))))
-      (λ κs. (shr-slice-tells (named 0) (κs .0) u8, (shr-slice-tells (named 1) (κs .1 .0) u16, (shr-slice-tells (named 2) (κs .1 .1 .0) u16, (array-tells P.the-row (LL.vals P.the-type P′.the-laws) (LL.tells P.the-type P′.the-laws) 128, (shr-slice-tells (named 3) (κs .1 .1 .1 .0) u8, (mut-slice-tells (named 4) (κs .1 .1 .1 .1 .0) u8, tt)))))))
+      (λ κs. (slice-vals, (slice-vals, (slice-vals, (shown-vals, (slice-vals, (slice-vals, tt)))))))
+      (λ κs. (shr-slice-tells (named 0) (κs .0) u8, (shr-slice-tells (named 1) (κs .1 .0) u16, (shr-slice-tells (named 2) (κs .1 .1 .0) u16, (array-tells S.the-row (LL.vals S.the-type S′.the-laws) (LL.tells S.the-type S′.the-laws) 128, (shr-slice-tells (named 3) (κs .1 .1 .1 .0) u8, (mut-slice-tells (named 4) (κs .1 .1 .1 .1 .0) u8, tt)))))))
       (λ κs qs bounds a g are. needs 𝓤 (Asked (a .0 .now) (a .1 .0 .now) (a .1 .1 .0 .now) (a .1 .1 .1 .0) (a .1 .1 .1 .1 .0 .now) (a .1 .1 .1 .1 .1 .0 .now)) _ (λ asked.
       walk 𝓤 H A W mem run (κs .0) (κs .1 .0) (κs .1 .1 .0) (κs .1 .1 .1 .0) (κs .1 .1 .1 .1 .0) (qs .0) (qs .1 .0) (qs .1 .1 .0) (qs .1 .1 .1 .0) (qs .1 .1 .1 .1 .0)
       (a .0) (a .1 .0) (a .1 .1 .0) (a .1 .1 .1 .0) (a .1 .1 .1 .1 .0) (a .1 .1 .1 .1 .1 .0 .ptr .0) (a .1 .1 .1 .1 .1 .0 .ptr .1) (a .1 .1 .1 .1 .1 .0 .name) (a .1 .1 .1 .1 .1 .0 .now) (are .1 .1 .1 .0) asked
@@ -294,7 +294,7 @@ put-sheet-meets : {M : Type 1} (𝓤 : URA M) (H : Heap 𝓤) (A : Atoms 𝓤) �
     → Triple 𝓤 (𝓣 .C #pages·page·begin) (Begin 𝓤 H A mem run) → Triple 𝓤 (𝓣 .C #pages·page·heading) (Heading 𝓤 H A mem run) → Triple 𝓤 (𝓣 .C #pages·page·rows) (Rows 𝓤 H A mem run)
     → Meets 𝓤 H A put-sheet.signature (WpFn 𝓤 H (𝓣 .C) (𝓣 .Λ) code.function) (put-sheet.spec 𝓤 H A mem run)
 put-sheet-meets 𝓤 H A W mem run 𝓣 known-begin known-heading known-rows =
-    walk-meets 𝓤 H A put-sheet.ended stayed W (goes-none-slice 𝓤 H A W 5 (0 ∷ []) tt (plain (λ _. u8)) yes, (goes-none-slice 𝓤 H A W 5 (1 ∷ []) tt (plain (λ _. u16)) yes, (goes-none-slice 𝓤 H A W 5 (2 ∷ []) tt (plain (λ _. u16)) yes, (goes-none 𝓤 H A W 5 (λ _. Records) yes (λ κs x f. refl), (goes-none-slice 𝓤 H A W 5 (3 ∷ []) tt (plain (λ _. u8)) yes, (goes-gave-slice 𝓤 H A W 5 4 tt (plain (λ _. u8)), tt)))))) (put-sheet.clauses 𝓤 H A mem run)
+    walk-meets 𝓤 H A put-sheet.ended stayed W (goes-none-slice 𝓤 H A W 5 (0 ∷ []) tt (plain (λ _. u8)) yes, (goes-none-slice 𝓤 H A W 5 (1 ∷ []) tt (plain (λ _. u16)) yes, (goes-none-slice 𝓤 H A W 5 (2 ∷ []) tt (plain (λ _. u16)) yes, (goes-none 𝓤 H A W 5 (λ _. AllShown) yes (λ κs x f. refl), (goes-none-slice 𝓤 H A W 5 (3 ∷ []) tt (plain (λ _. u8)) yes, (goes-gave-slice 𝓤 H A W 5 4 tt (plain (λ _. u8)), tt)))))) (put-sheet.clauses 𝓤 H A mem run)
     (WpFn 𝓤 H (𝓣 .C) (𝓣 .Λ) code.function) (WpFn-mono 𝓤 H (W .laws) 𝓣 code.function) (put-sheet-walks 𝓤 H A W mem run (𝓣 .C) (𝓣 .Λ) (fmOf 𝓤 H (W .laws) 𝓣) known-begin known-heading known-rows)
 
 pub put-sheet-spec : {M : Type 1} → stated.statement M

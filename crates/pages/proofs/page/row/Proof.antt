@@ -45,15 +45,15 @@ use denote.Exit.{yes}
 use denote.Signature.{plain, namedLft}
 use denote.Signature.Struct.{inStruct, makes}
 use Rattle.words.specs.Written.{Written}
-use Rattle.places.specs.declared.Place.{Place}
-use Rattle.places.proofs.Place as P
-use Rattle.places.proofs.Place.Laws as P′
+use Rattle.sheet_rows.specs.declared.Shown.{Shown}
+use Rattle.sheet_rows.proofs.Shown as S
+use Rattle.sheet_rows.proofs.Shown.Laws as S′
 use Rattle.sheet_rows.specs.Placed.{RowsThere, nthRow}
 use Rattle.pages.specs.declared.page.Writer.{Writer}
 use Rattle.pages.proofs.page.Writer as T
 use Rattle.pages.proofs.page.Writer.Laws as T′
 use Rattle.pages.proofs.Held.{writer-spent, writer-spent-goes}
-use Rattle.pages.proofs.Passed.{Records, records-vals, records-val, slice-val, Slices, Five, five-apart, five-made, Four, Ending, token-put, token-taken}
+use Rattle.pages.proofs.Passed.{AllShown, shown-vals, shown-val, slice-val, Slices, Five, five-apart, five-made, Four, Ending, token-put, token-taken}
 use Rattle.pages.proofs.Again.{LentAgain, lends-again, comes-back}
 use Rattle.sheet_rows.proofs.put_nth as put-nth
 use Rattle.sheet_rows.proofs.put_nth.Symbol as put-nth-def
@@ -65,18 +65,18 @@ use Rattle.pages.proofs.page.row.Statement as stated
 use Rattle.pages.proofs.page.row.Code as code
 
 abbrev stayed : Stays (row.ended .signature .params) (row.ended .kept)
-stayed = (writer-spent 4, (stay-none-slice (1 ∷ []) tt (plain (λ _. u8)) yes, (stay-none-slice (2 ∷ []) tt (plain (λ _. u16)) yes, (stay-none-slice (3 ∷ []) tt (plain (λ _. u16)) yes, (stay-none (λ _. Records) yes, (stay-none-slice (4 ∷ []) tt (plain (λ _. u8)) yes, (stay-none (λ _. usize) yes, tt)))))))
+stayed = (writer-spent 4, (stay-none-slice (1 ∷ []) tt (plain (λ _. u8)) yes, (stay-none-slice (2 ∷ []) tt (plain (λ _. u16)) yes, (stay-none-slice (3 ∷ []) tt (plain (λ _. u16)) yes, (stay-none (λ _. AllShown) yes, (stay-none-slice (4 ∷ []) tt (plain (λ _. u8)) yes, (stay-none (λ _. usize) yes, tt)))))))
 
 -- the contract that the proof cites
 abbrev PutNth : {M : Type 1} (𝓤 : URA M) (H : Heap 𝓤) (A : Atoms 𝓤) (mem : Memory → SProp 𝓤) (run : Routine → Fun 𝓤) → Contract 𝓤
 PutNth 𝓤 H A mem run = tripleOf 𝓤 H A put-nth.signature (put-nth.spec 𝓤 H A mem run)
 
 -- what `row` asks, of the lists passed
-abbrev Asked : (names sizes ls : List ℕ) (ps : List Place) (ribbon : List ℕ) (i n : ℕ) (ys : List ℕ) → Type 0
-Asked names sizes ls ps ribbon i n ys = RowsThere names sizes ls ps ribbon × (i < length ls) × (n + length (nthRow names sizes ls ps ribbon i) ≤ length ys)
+abbrev Asked : (names sizes ls : List ℕ) (ss : List Shown) (ribbon : List ℕ) (i n : ℕ) (ys : List ℕ) → Type 0
+Asked names sizes ls ss ribbon i n ys = RowsThere names sizes ls ss ribbon × (i < length ls) × (n + length (nthRow names sizes ls ss ribbon i) ≤ length ys)
 
 module _ {M : Type 1} (𝓤 : URA M) (H : Heap 𝓤) (A : Atoms 𝓤) (W : Given 𝓤 H A) (mem : Memory → SProp 𝓤) (run : Routine → Fun 𝓤) (κ κ₀ κ₁ κ₂ κ₃ : Lft) (q q₀ q₁ q₂ q₃ : Share)
-    (b o : ℕ) (γ : GName) (ys : List ℕ) (n : ℕ) (x₀ x₁ x₂ : RefT (List ℕ)) (xs : List Place) (x₃ : RefT (List ℕ)) (i : ℕ) (n-fits : n < 2 ^ 64) (xs-is : Is Records xs (records-val xs ∷ [])) (i-fits : i < 2 ^ 64) (asked : Asked (now x₀) (now x₁) (now x₂) xs (now x₃) i n ys) where
+    (b o : ℕ) (γ : GName) (ys : List ℕ) (n : ℕ) (x₀ x₁ x₂ : RefT (List ℕ)) (xs : List Shown) (x₃ : RefT (List ℕ)) (i : ℕ) (n-fits : n < 2 ^ 64) (xs-is : Is AllShown xs (shown-val xs ∷ [])) (i-fits : i < 2 ^ 64) (asked : Asked (now x₀) (now x₁) (now x₂) xs (now x₃) i n ys) where
   abbrev α : NamedLft
   α = record { mir = named 0; lft = κ }
 
@@ -101,13 +101,13 @@ module _ {M : Type 1} (𝓤 : URA M) (H : Heap 𝓤) (A : Atoms 𝓤) (W : Given
   qs = (q, (q₀, (q₁, (q₂, (q₃, tt)))))
 
   abbrev Arg : Type 0
-  Arg = Writer × (RefT (List ℕ) × (RefT (List ℕ) × (RefT (List ℕ) × (List Place × (RefT (List ℕ) × (ℕ × Unit {0}))))))
+  Arg = Writer × (RefT (List ℕ) × (RefT (List ℕ) × (RefT (List ℕ) × (List Shown × (RefT (List ℕ) × (ℕ × Unit {0}))))))
 
   abbrev a : Arg
   a = (h, (x₀, (x₁, (x₂, (xs, (x₃, (i, tt)))))))
 
   abbrev vals : List Val × (List Val × (List Val × (List Val × (List Val × (List Val × (List Val × Unit {0}))))))
-  vals = (mach n ∷ [], (slice-val x₀ ∷ [], (slice-val x₁ ∷ [], (slice-val x₂ ∷ [], (records-val xs ∷ [], (slice-val x₃ ∷ [], (vint w64 i ∷ [], tt)))))))
+  vals = (mach n ∷ [], (slice-val x₀ ∷ [], (slice-val x₁ ∷ [], (slice-val x₂ ∷ [], (shown-val xs ∷ [], (slice-val x₃ ∷ [], (vint w64 i ∷ [], tt)))))))
 
   abbrev Post : Val → SProp 𝓤
   Post = walkOf 𝓤 H A row.ended stayed (row.clauses 𝓤 H A mem run) .post ((κs, qs, tt, a, vals), tt)
@@ -137,12 +137,12 @@ module _ {M : Type 1} (𝓤 : URA M) (H : Heap 𝓤) (A : Atoms 𝓤) (W : Given
     abbrev κs′ : Lfts 5
     κs′ = (κ₀, (κ₁, (κ₂, (κ₃, (ν ∷ [], tt)))))
 
-    abbrev args : RefT (List ℕ) × (RefT (List ℕ) × (RefT (List ℕ) × (List Place × (RefT (List ℕ) × (ℕ × (RefT (List ℕ) × (ℕ × Unit {0})))))))
+    abbrev args : RefT (List ℕ) × (RefT (List ℕ) × (RefT (List ℕ) × (List Shown × (RefT (List ℕ) × (ℕ × (RefT (List ℕ) × (ℕ × Unit {0})))))))
     args = (x₀, (x₁, (x₂, (xs, (x₃, (i, (x δ ys, (n, tt))))))))
 
     -- what `put_nth`'s triple binds outside
     abbrev to : PutNth 𝓤 H A mem run .Ghost
-    to = ((κs′, (q₀, (q₁, (q₂, (q₃, (fullShare, tt))))), tt, args, (slice-val x₀ ∷ [], (slice-val x₁ ∷ [], (slice-val x₂ ∷ [], (records-val xs ∷ [], (slice-val x₃ ∷ [], (vint w64 i ∷ [], (s ∷ [], (vint w64 n ∷ [], tt))))))))), tt)
+    to = ((κs′, (q₀, (q₁, (q₂, (q₃, (fullShare, tt))))), tt, args, (slice-val x₀ ∷ [], (slice-val x₁ ∷ [], (slice-val x₂ ∷ [], (shown-val xs ∷ [], (slice-val x₃ ∷ [], (vint w64 i ∷ [], (s ∷ [], (vint w64 n ∷ [], tt))))))))), tt)
 
     abbrev Toks′ : Item 𝓤
     Toks′ = Ending 𝓤 κ₀ κ₁ κ₂ κ₃ q₀ q₁ q₂ q₃ (ν ∷ []) fullShare
@@ -193,13 +193,13 @@ module _ {M : Type 1} (𝓤 : URA M) (H : Heap 𝓤) (A : Atoms 𝓤) (W : Given
 
   module _ (C : Calls 𝓤 H) (Λ : Loops 𝓤 H) (fm : FmC 𝓤 H (W .laws) C) (known : Triple 𝓤 (C #sheet-rows·put-nth) (PutNth 𝓤 H A mem run)) where
     walk : Is (T.the-row α) h (mach n ∷ []) → Room u8 (length ys) → Room u8 (length (now x₀)) → Room u16 (length (now x₁)) → Room u16 (length (now x₂)) → Room u8 (length (now x₃))
-        → ent 𝓤 (onEntry 𝓤 H A row.signature κs qs a vals) (WpFn 𝓤 H C Λ code.function (mach n ∷ slice-val x₀ ∷ slice-val x₁ ∷ slice-val x₂ ∷ records-val xs ∷ slice-val x₃ ∷ vint w64 i ∷ []) Post)
+        → ent 𝓤 (onEntry 𝓤 H A row.signature κs qs a vals) (WpFn 𝓤 H C Λ code.function (mach n ∷ slice-val x₀ ∷ slice-val x₁ ∷ slice-val x₂ ∷ shown-val xs ∷ slice-val x₃ ∷ vint w64 i ∷ []) Post)
     walk g room room₀ room₁ room₂ room₃ =
-        qed W ((‵ (flft κ q) ⊛ Others) ∷ ‵ (fsep (T.the-row α .own h (mach n ∷ [])) (With (fsep (Number i) ftrue))) ∷ []) ∵ enter ! C Λ code.function (mach n ∷ slice-val x₀ ∷ slice-val x₁ ∷ slice-val x₂ ∷ records-val xs ∷ slice-val x₃ ∷ vint w64 i ∷ []) _ $
+        qed W ((‵ (flft κ q) ⊛ Others) ∷ ‵ (fsep (T.the-row α .own h (mach n ∷ [])) (With (fsep (Number i) ftrue))) ∷ []) ∵ enter ! C Λ code.function (mach n ∷ slice-val x₀ ∷ slice-val x₁ ∷ slice-val x₂ ∷ shown-val xs ∷ slice-val x₃ ∷ vint w64 i ∷ []) _ $
         alloc1 ! (λ l₀. alloc1 ! (λ l₁. alloc1 ! (λ l₂. alloc1 ! (λ l₃. alloc1 ! (λ l₄. alloc1 ! (λ l₅. alloc1 ! (λ l₆. alloc1 ! (λ l₇. alloc1 ! (λ l₈. alloc1 ! (λ l₉. alloc1 ! (λ l₁₀. alloc1 ! (λ l₁₁. alloc1 ! (λ l₁₂. alloc1 ! (λ l₁₃. alloc0 ! $ params1 ! $
         pass1 ! (init ! 24 refl (LL.lawful (T.the-type α) (T′.the-laws α) 𝓤 H A W .typed h _ g .0)) $
         pass1 ! (init ! 22 refl (tt, (tt, (record { fits = room₀ .0 }, tt)))) $ pass1 ! (init ! 20 refl (tt, (tt, (record { fits = room₁ .0 }, tt)))) $ pass1 ! (init ! 18 refl (tt, (tt, (record { fits = room₂ .0 }, tt)))) $
-        pass1 ! (init ! 16 refl (array-lawful 𝓤 H A W P.the-row (LL.lawful P.the-type P′.the-laws 𝓤 H A W) 128 .typed xs _ xs-is .0)) $ pass1 ! (init ! 14 refl (tt, (tt, (record { fits = room₃ .0 }, tt)))) $ pass1 ! (init ! 12 refl (tt, record { fits = i-fits })) $ pass0 ! $
+        pass1 ! (init ! 16 refl (array-lawful 𝓤 H A W S.the-row (LL.lawful S.the-type S′.the-laws 𝓤 H A W) 128 .typed xs _ xs-is .0)) $ pass1 ! (init ! 14 refl (tt, (tt, (record { fits = room₃ .0 }, tt)))) $ pass1 ! (init ! 12 refl (tt, record { fits = i-fits })) $ pass0 ! $
         -- [_13; …; _12; …; _11; …; _10; …; _9; …; _8; …; _7; …; _6; …; _5; …; _4; …; _3; …; _2; …; _1; …; room for _0; …;
         -- the tokens; what the parameters own]
         assigns ! (of-opd ! (load ! (from ! (fld ! refl (stop !))) (look-in ! 24 (sub ! 1 refl (whole !))))) (from ! (stop !)) (init ! 10 refl (tt, record { fits = n-fits })) $
@@ -241,8 +241,8 @@ module _ {M : Type 1} (𝓤 : URA M) (H : Heap 𝓤) (A : Atoms 𝓤) (W : Given
 module _ {M : Type 1} (𝓤 : URA M) (H : Heap 𝓤) (A : Atoms 𝓤) (W : Given 𝓤 H A) (mem : Memory → SProp 𝓤) (run : Routine → Fun 𝓤) where
   row-walks : (C : Calls 𝓤 H) (Λ : Loops 𝓤 H) → FmC 𝓤 H (W .laws) C → Triple 𝓤 (C #sheet-rows·put-nth) (PutNth 𝓤 H A mem run) → Walks 𝓤 H A row.ended stayed (WpFn 𝓤 H C Λ code.function) (row.clauses 𝓤 H A mem run)
   row-walks C Λ fm known = walked 𝓤 H A row.ended stayed (row.clauses 𝓤 H A mem run) (WpFn 𝓤 H C Λ code.function)
-      (λ κs. (LL.vals (T.the-type (namedLft 5 0 tt κs)) (T′.the-laws (namedLft 5 0 tt κs)), (slice-vals, (slice-vals, (slice-vals, (records-vals, (slice-vals, (uint-vals w64, tt))))))))
-      (λ κs. (LL.tells (T.the-type (namedLft 5 0 tt κs)) (T′.the-laws (namedLft 5 0 tt κs)), (shr-slice-tells (named 1) (κs .1 .0) u8, (shr-slice-tells (named 2) (κs .1 .1 .0) u16, (shr-slice-tells (named 3) (κs .1 .1 .1 .0) u16, (array-tells P.the-row (LL.vals P.the-type P′.the-laws) (LL.tells P.the-type P′.the-laws) 128, (shr-slice-tells (named 4) (κs .1 .1 .1 .1 .0) u8, (uint-tells w64, tt))))))))
+      (λ κs. (LL.vals (T.the-type (namedLft 5 0 tt κs)) (T′.the-laws (namedLft 5 0 tt κs)), (slice-vals, (slice-vals, (slice-vals, (shown-vals, (slice-vals, (uint-vals w64, tt))))))))
+      (λ κs. (LL.tells (T.the-type (namedLft 5 0 tt κs)) (T′.the-laws (namedLft 5 0 tt κs)), (shr-slice-tells (named 1) (κs .1 .0) u8, (shr-slice-tells (named 2) (κs .1 .1 .0) u16, (shr-slice-tells (named 3) (κs .1 .1 .1 .0) u16, (array-tells S.the-row (LL.vals S.the-type S′.the-laws) (LL.tells S.the-type S′.the-laws) 128, (shr-slice-tells (named 4) (κs .1 .1 .1 .1 .0) u8, (uint-tells w64, tt))))))))
       (λ κs qs bounds a g are. needs 𝓤 (Asked (a .1 .0 .now) (a .1 .1 .0 .now) (a .1 .1 .1 .0 .now) (a .1 .1 .1 .1 .0) (a .1 .1 .1 .1 .1 .0 .now) (a .1 .1 .1 .1 .1 .1 .0) (a .0 .mark) (a .0 .out .now)) _ (λ asked.
       let fields = LL.owed (T.the-type (namedLft 5 0 tt κs)) (T′.the-laws (namedLft 5 0 tt κs)) (a .0) _ (are .0) in
       walk 𝓤 H A W mem run (κs .0) (κs .1 .0) (κs .1 .1 .0) (κs .1 .1 .1 .0) (κs .1 .1 .1 .1 .0) (qs .0) (qs .1 .0) (qs .1 .1 .0) (qs .1 .1 .1 .0) (qs .1 .1 .1 .1 .0)
@@ -252,7 +252,7 @@ module _ {M : Type 1} (𝓤 : URA M) (H : Heap 𝓤) (A : Atoms 𝓤) (W : Given
 row-meets : {M : Type 1} (𝓤 : URA M) (H : Heap 𝓤) (A : Atoms 𝓤) → Given 𝓤 H A → (mem : Memory → SProp 𝓤) (run : Routine → Fun 𝓤) (𝓣 : Tables 𝓤 H) → Triple 𝓤 (𝓣 .C #sheet-rows·put-nth) (PutNth 𝓤 H A mem run)
     → Meets 𝓤 H A row.signature (WpFn 𝓤 H (𝓣 .C) (𝓣 .Λ) code.function) (row.spec 𝓤 H A mem run)
 row-meets 𝓤 H A W mem run 𝓣 known =
-    walk-meets 𝓤 H A row.ended stayed W (writer-spent-goes 4 𝓤 H A W, (goes-none-slice 𝓤 H A W 5 (1 ∷ []) tt (plain (λ _. u8)) yes, (goes-none-slice 𝓤 H A W 5 (2 ∷ []) tt (plain (λ _. u16)) yes, (goes-none-slice 𝓤 H A W 5 (3 ∷ []) tt (plain (λ _. u16)) yes, (goes-none 𝓤 H A W 5 (λ _. Records) yes (λ κs x f. refl), (goes-none-slice 𝓤 H A W 5 (4 ∷ []) tt (plain (λ _. u8)) yes, (goes-none 𝓤 H A W 5 (λ _. usize) yes (λ κs x f. refl), tt))))))) (row.clauses 𝓤 H A mem run)
+    walk-meets 𝓤 H A row.ended stayed W (writer-spent-goes 4 𝓤 H A W, (goes-none-slice 𝓤 H A W 5 (1 ∷ []) tt (plain (λ _. u8)) yes, (goes-none-slice 𝓤 H A W 5 (2 ∷ []) tt (plain (λ _. u16)) yes, (goes-none-slice 𝓤 H A W 5 (3 ∷ []) tt (plain (λ _. u16)) yes, (goes-none 𝓤 H A W 5 (λ _. AllShown) yes (λ κs x f. refl), (goes-none-slice 𝓤 H A W 5 (4 ∷ []) tt (plain (λ _. u8)) yes, (goes-none 𝓤 H A W 5 (λ _. usize) yes (λ κs x f. refl), tt))))))) (row.clauses 𝓤 H A mem run)
     (WpFn 𝓤 H (𝓣 .C) (𝓣 .Λ) code.function) (WpFn-mono 𝓤 H (W .laws) 𝓣 code.function) (row-walks 𝓤 H A W mem run (𝓣 .C) (𝓣 .Λ) (fmOf 𝓤 H (W .laws) 𝓣) known)
 
 pub row-spec : {M : Type 1} → stated.statement M

@@ -54,16 +54,16 @@ use denote.Signature.{plain, namedLft}
 use denote.Signature.Struct.{inStruct, makes}
 use Rattle.words.specs.Written.{Written}
 use Rattle.lists.specs.Runs.{codesIn}
-use Rattle.places.specs.declared.Place.{Place}
-use Rattle.places.proofs.Place as P
-use Rattle.places.proofs.Place.Laws as P′
+use Rattle.sheet_rows.specs.declared.Shown.{Shown}
+use Rattle.sheet_rows.proofs.Shown as S
+use Rattle.sheet_rows.proofs.Shown.Laws as S′
 use Rattle.sheet_rows.specs.Placed.{RowsThere, nthRow, placedRows}
 use Rattle.pages.specs.declared.page.Writer.{Writer}
 use Rattle.pages.specs.Filled.{putAt, filled}
 use Rattle.pages.proofs.page.Writer as T
 use Rattle.pages.proofs.page.Writer.Laws as T′
 use Rattle.pages.proofs.Held.{writer-stay, writer-stay-goes}
-use Rattle.pages.proofs.Passed.{Records, records-vals, records-val, slice-val, Slices, Five, five-apart, five-made, Four}
+use Rattle.pages.proofs.Passed.{AllShown, shown-vals, shown-val, slice-val, Slices, Five, five-apart, five-made, Four}
 use Rattle.pages.proofs.Filling.{putAt-length, filled-none, filled-twice}
 use Rattle.pages.proofs.RowByRow.{first, first-next, first-all, first-fit, next-fits}
 use Rattle.pages.proofs.page.row as row
@@ -77,7 +77,7 @@ use Rattle.pages.proofs.page.rows.Code as code
 use Rattle.pages.proofs.page.rows.Code.Mir as mir′
 
 abbrev stayed : Stays (rows.ended .signature .params) (rows.ended .kept)
-stayed = (writer-stay 4, (stay-none-slice (1 ∷ []) tt (plain (λ _. u8)) yes, (stay-none-slice (2 ∷ []) tt (plain (λ _. u16)) yes, (stay-none-slice (3 ∷ []) tt (plain (λ _. u16)) yes, (stay-none (λ _. Records) yes, (stay-none-slice (4 ∷ []) tt (plain (λ _. u8)) yes, tt))))))
+stayed = (writer-stay 4, (stay-none-slice (1 ∷ []) tt (plain (λ _. u8)) yes, (stay-none-slice (2 ∷ []) tt (plain (λ _. u16)) yes, (stay-none-slice (3 ∷ []) tt (plain (λ _. u16)) yes, (stay-none (λ _. AllShown) yes, (stay-none-slice (4 ∷ []) tt (plain (λ _. u8)) yes, tt))))))
 
 module _ {M : Type 1} (𝓤 : URA M) (H : Heap 𝓤) (A : Atoms 𝓤) (mem : Memory → SProp 𝓤) (run : Routine → Fun 𝓤) where
   -- the contract that the proof cites
@@ -85,11 +85,11 @@ module _ {M : Type 1} (𝓤 : URA M) (H : Heap 𝓤) (A : Atoms 𝓤) (mem : Mem
   Row = tripleOf 𝓤 H A row.signature (row.spec 𝓤 H A mem run)
 
 -- what `rows` asks, of the lists passed
-abbrev Asked : (names sizes ls : List ℕ) (ps : List Place) (ribbon : List ℕ) (n : ℕ) (ys : List ℕ) → Type 0
-Asked names sizes ls ps ribbon n ys = RowsThere names sizes ls ps ribbon × (n + length (placedRows (codesIn names sizes) ls ps ribbon) ≤ length ys)
+abbrev Asked : (names sizes ls : List ℕ) (ss : List Shown) (ribbon : List ℕ) (n : ℕ) (ys : List ℕ) → Type 0
+Asked names sizes ls ss ribbon n ys = RowsThere names sizes ls ss ribbon × (n + length (placedRows (codesIn names sizes) ls ss ribbon) ≤ length ys)
 
 module _ {M : Type 1} (𝓤 : URA M) (H : Heap 𝓤) (A : Atoms 𝓤) (W : Given 𝓤 H A) (mem : Memory → SProp 𝓤) (run : Routine → Fun 𝓤) (κ κ₀ κ₁ κ₂ κ₃ : Lft) (q q₀ q₁ q₂ q₃ : Share)
-    (b o : ℕ) (γ : GName) (ys : List ℕ) (n : ℕ) (x₀ x₁ x₂ : RefT (List ℕ)) (xs : List Place) (x₃ : RefT (List ℕ)) (n-fits : n < 2 ^ 64) (xs-is : Is Records xs (records-val xs ∷ [])) (room : Room u8 (length ys)) (room₂ : Room u16 (length (now x₂)))
+    (b o : ℕ) (γ : GName) (ys : List ℕ) (n : ℕ) (x₀ x₁ x₂ : RefT (List ℕ)) (xs : List Shown) (x₃ : RefT (List ℕ)) (n-fits : n < 2 ^ 64) (xs-is : Is AllShown xs (shown-val xs ∷ [])) (room : Room u8 (length ys)) (room₂ : Room u16 (length (now x₂)))
     (asked : Asked (now x₀) (now x₁) (now x₂) xs (now x₃) n ys) where
   abbrev α : NamedLft
   α = record { mir = named 0; lft = κ }
@@ -144,13 +144,13 @@ module _ {M : Type 1} (𝓤 : URA M) (H : Heap 𝓤) (A : Atoms 𝓤) (W : Given
   qs = (q, (q₀, (q₁, (q₂, (q₃, tt)))))
 
   abbrev Arg : Type 0
-  Arg = Writer × (RefT (List ℕ) × (RefT (List ℕ) × (RefT (List ℕ) × (List Place × (RefT (List ℕ) × Unit {0})))))
+  Arg = Writer × (RefT (List ℕ) × (RefT (List ℕ) × (RefT (List ℕ) × (List Shown × (RefT (List ℕ) × Unit {0})))))
 
   abbrev a : Arg
   a = (h, (x₀, (x₁, (x₂, (xs, (x₃, tt))))))
 
   abbrev vals : List Val × (List Val × (List Val × (List Val × (List Val × (List Val × Unit {0})))))
-  vals = (mach h ∷ [], (slice-val x₀ ∷ [], (slice-val x₁ ∷ [], (slice-val x₂ ∷ [], (records-val xs ∷ [], (slice-val x₃ ∷ [], tt))))))
+  vals = (mach h ∷ [], (slice-val x₀ ∷ [], (slice-val x₁ ∷ [], (slice-val x₂ ∷ [], (shown-val xs ∷ [], (slice-val x₃ ∷ [], tt))))))
 
   abbrev Post : Val → SProp 𝓤
   Post = walkOf 𝓤 H A rows.ended stayed (rows.clauses 𝓤 H A mem run) .post ((κs, qs, tt, a, vals), tt)
@@ -174,11 +174,11 @@ module _ {M : Type 1} (𝓤 : URA M) (H : Heap 𝓤) (A : Atoms 𝓤) (W : Given
   Number m = usize .own m (vint w64 m ∷ [])
 
   -- ---- what a call of `row` at i takes, and says
-  abbrev args : ℕ → Writer × (RefT (List ℕ) × (RefT (List ℕ) × (RefT (List ℕ) × (List Place × (RefT (List ℕ) × (ℕ × Unit {0}))))))
+  abbrev args : ℕ → Writer × (RefT (List ℕ) × (RefT (List ℕ) × (RefT (List ℕ) × (List Shown × (RefT (List ℕ) × (ℕ × Unit {0}))))))
   args i = (at i, (x₀, (x₁, (x₂, (xs, (x₃, (i, tt)))))))
 
   abbrev to : ℕ → Row 𝓤 H A mem run .Ghost
-  to i = ((κs, qs, tt, args i, (mach (at i) ∷ [], (slice-val x₀ ∷ [], (slice-val x₁ ∷ [], (slice-val x₂ ∷ [], (records-val xs ∷ [], (slice-val x₃ ∷ [], (vint w64 i ∷ [], tt)))))))), tt)
+  to i = ((κs, qs, tt, args i, (mach (at i) ∷ [], (slice-val x₀ ∷ [], (slice-val x₁ ∷ [], (slice-val x₂ ∷ [], (shown-val xs ∷ [], (slice-val x₃ ∷ [], (vint w64 i ∷ [], tt)))))))), tt)
 
   abbrev Taken : ℕ → Fml
   Taken i = fsep (Has (at i) (mach (at i))) (With (fsep (Number i) ftrue))
@@ -241,7 +241,7 @@ module _ {M : Type 1} (𝓤 : URA M) (H : Heap 𝓤) (A : Atoms 𝓤) (W : Given
   slice k t = spell mir′.table (sliceTy (tyRef (named k) imm t))
 
   abbrev T₅ : Ty
-  T₅ = spell mir′.table (pointee (Records .written))
+  T₅ = spell mir′.table (pointee (AllShown .written))
 
   abbrev writer : Lifetime → Ty
   writer ℓ = spell mir′.table (pointee (T.the-row (record { mir = ℓ; lft = κ }) .written))
@@ -260,7 +260,7 @@ module _ {M : Type 1} (𝓤 : URA M) (H : Heap 𝓤) (A : Atoms 𝓤) (W : Given
     -- what no turn touches
     abbrev Frame : List (Item 𝓤)
     Frame = ‵ (fat fullShare (writer (named 0)) l₁ 0 (mach h)) ∷ ‵ (fat fullShare (slice 1 (tyInt w8)) l₂ 0 (slice-val x₀)) ∷ ‵ (fat fullShare (slice 2 (tyInt w16)) l₃ 0 (slice-val x₁)) ∷ ‵ (fat fullShare (slice 3 (tyInt w16)) l₄ 0 (slice-val x₂))
-        ∷ ‵ (fat fullShare T₅ l₅ 0 (records-val xs)) ∷ ‵ (fat fullShare (slice 4 (tyInt w8)) l₆ 0 (slice-val x₃)) ∷ ‵ (froom word l₀ 0) ∷ ‵ (flft κ q) ∷ Others ∷ ‵ Shared
+        ∷ ‵ (fat fullShare T₅ l₅ 0 (shown-val xs)) ∷ ‵ (fat fullShare (slice 4 (tyInt w8)) l₆ 0 (slice-val x₃)) ∷ ‵ (froom word l₀ 0) ∷ ‵ (flft κ q) ∷ Others ∷ ‵ Shared
         ∷ ‵ (fdies word l₀) ∷ ‵ (fdies (writer (named 0)) l₁) ∷ ‵ (fdies (slice 1 (tyInt w8)) l₂) ∷ ‵ (fdies (slice 2 (tyInt w16)) l₃) ∷ ‵ (fdies (slice 3 (tyInt w16)) l₄) ∷ ‵ (fdies T₅ l₅) ∷ ‵ (fdies (slice 4 (tyInt w8)) l₆)
         ∷ ‵ (fdies (writer erased) l₇) ∷ ‵ (fdies word l₈) ∷ ‵ (fdies word l₉) ∷ ‵ (fdies truth l₁₀) ∷ ‵ (fdies (writer erased) l₁₁) ∷ []
 
@@ -370,13 +370,13 @@ module _ {M : Type 1} (𝓤 : URA M) (H : Heap 𝓤) (A : Atoms 𝓤) (W : Given
 
   -- the MIR up to the loop
   walk : (𝓣 : Tables 𝓤 H) → Triple 𝓤 (𝓣 .C #pages·page·row) (Row 𝓤 H A mem run) → Is (T.the-row α) h (mach h ∷ []) → Room u8 (length (now x₀)) → Room u16 (length (now x₁)) → Room u8 (length (now x₃))
-      → ent 𝓤 (onEntry 𝓤 H A rows.signature κs qs a vals) (WpFn 𝓤 H (𝓣 .C) (𝓣 .Λ) code.function (mach h ∷ slice-val x₀ ∷ slice-val x₁ ∷ slice-val x₂ ∷ records-val xs ∷ slice-val x₃ ∷ []) Post)
+      → ent 𝓤 (onEntry 𝓤 H A rows.signature κs qs a vals) (WpFn 𝓤 H (𝓣 .C) (𝓣 .Λ) code.function (mach h ∷ slice-val x₀ ∷ slice-val x₁ ∷ slice-val x₂ ∷ shown-val xs ∷ slice-val x₃ ∷ []) Post)
   walk 𝓣 known g room₀ room₁ room₃ =
-      qed W (Toks ∷ ‵ (fsep (Has h (mach h)) (With ftrue)) ∷ []) ∵ enter ! (𝓣 .C) (𝓣 .Λ) code.function (mach h ∷ slice-val x₀ ∷ slice-val x₁ ∷ slice-val x₂ ∷ records-val xs ∷ slice-val x₃ ∷ []) _ $
+      qed W (Toks ∷ ‵ (fsep (Has h (mach h)) (With ftrue)) ∷ []) ∵ enter ! (𝓣 .C) (𝓣 .Λ) code.function (mach h ∷ slice-val x₀ ∷ slice-val x₁ ∷ slice-val x₂ ∷ shown-val xs ∷ slice-val x₃ ∷ []) _ $
       alloc1 ! (λ l₀. alloc1 ! (λ l₁. alloc1 ! (λ l₂. alloc1 ! (λ l₃. alloc1 ! (λ l₄. alloc1 ! (λ l₅. alloc1 ! (λ l₆. alloc1 ! (λ l₇. alloc1 ! (λ l₈. alloc1 ! (λ l₉. alloc1 ! (λ l₁₀. alloc1 ! (λ l₁₁. alloc0 ! $ params1 ! $
       pass1 ! (init ! 20 refl (LL.lawful (T.the-type α) (T′.the-laws α) 𝓤 H A W .typed h _ g .0)) $
       pass1 ! (init ! 18 refl (tt, (tt, (record { fits = room₀ .0 }, tt)))) $ pass1 ! (init ! 16 refl (tt, (tt, (record { fits = room₁ .0 }, tt)))) $ pass1 ! (init ! 14 refl (tt, (tt, (record { fits = room₂ .0 }, tt)))) $
-      pass1 ! (init ! 12 refl (array-lawful 𝓤 H A W P.the-row (LL.lawful P.the-type P′.the-laws 𝓤 H A W) 128 .typed xs _ xs-is .0)) $ pass1 ! (init ! 10 refl (tt, (tt, (record { fits = room₃ .0 }, tt)))) $ pass0 ! $
+      pass1 ! (init ! 12 refl (array-lawful 𝓤 H A W S.the-row (LL.lawful S.the-type S′.the-laws 𝓤 H A W) 128 .typed xs _ xs-is .0)) $ pass1 ! (init ! 10 refl (tt, (tt, (record { fits = room₃ .0 }, tt)))) $ pass0 ! $
       -- [_11; …; _10; …; _9; …; _8; …; _7; …; _6; …; _5; …; _4; …; _3; …; _2; …; _1; …; room for _0; …; the tokens; what
       -- the parameters own]
       assigns ! (of-opd ! (load ! (from ! (stop !)) (look ! 20 refl))) (from ! (stop !)) (init ! 8 refl (tt, ((tt, (record { fits = room .0 }, tt)), (record { fits = n-fits }, tt)))) $
@@ -389,8 +389,8 @@ module _ {M : Type 1} (𝓤 : URA M) (H : Heap 𝓤) (A : Atoms 𝓤) (W : Given
 module _ {M : Type 1} (𝓤 : URA M) (H : Heap 𝓤) (A : Atoms 𝓤) (W : Given 𝓤 H A) (mem : Memory → SProp 𝓤) (run : Routine → Fun 𝓤) where
   rows-walks : (𝓣 : Tables 𝓤 H) → Triple 𝓤 (𝓣 .C #pages·page·row) (Row 𝓤 H A mem run) → Walks 𝓤 H A rows.ended stayed (WpFn 𝓤 H (𝓣 .C) (𝓣 .Λ) code.function) (rows.clauses 𝓤 H A mem run)
   rows-walks 𝓣 known = walked 𝓤 H A rows.ended stayed (rows.clauses 𝓤 H A mem run) (WpFn 𝓤 H (𝓣 .C) (𝓣 .Λ) code.function)
-      (λ κs. (LL.vals (T.the-type (namedLft 5 0 tt κs)) (T′.the-laws (namedLft 5 0 tt κs)), (slice-vals, (slice-vals, (slice-vals, (records-vals, (slice-vals, tt)))))))
-      (λ κs. (LL.tells (T.the-type (namedLft 5 0 tt κs)) (T′.the-laws (namedLft 5 0 tt κs)), (shr-slice-tells (named 1) (κs .1 .0) u8, (shr-slice-tells (named 2) (κs .1 .1 .0) u16, (shr-slice-tells (named 3) (κs .1 .1 .1 .0) u16, (array-tells P.the-row (LL.vals P.the-type P′.the-laws) (LL.tells P.the-type P′.the-laws) 128, (shr-slice-tells (named 4) (κs .1 .1 .1 .1 .0) u8, tt)))))))
+      (λ κs. (LL.vals (T.the-type (namedLft 5 0 tt κs)) (T′.the-laws (namedLft 5 0 tt κs)), (slice-vals, (slice-vals, (slice-vals, (shown-vals, (slice-vals, tt)))))))
+      (λ κs. (LL.tells (T.the-type (namedLft 5 0 tt κs)) (T′.the-laws (namedLft 5 0 tt κs)), (shr-slice-tells (named 1) (κs .1 .0) u8, (shr-slice-tells (named 2) (κs .1 .1 .0) u16, (shr-slice-tells (named 3) (κs .1 .1 .1 .0) u16, (array-tells S.the-row (LL.vals S.the-type S′.the-laws) (LL.tells S.the-type S′.the-laws) 128, (shr-slice-tells (named 4) (κs .1 .1 .1 .1 .0) u8, tt)))))))
       (λ κs qs bounds a g are. needs 𝓤 (Asked (a .1 .0 .now) (a .1 .1 .0 .now) (a .1 .1 .1 .0 .now) (a .1 .1 .1 .1 .0) (a .1 .1 .1 .1 .1 .0 .now) (a .0 .mark) (a .0 .out .now)) _ (λ asked.
       let fields = LL.owed (T.the-type (namedLft 5 0 tt κs)) (T′.the-laws (namedLft 5 0 tt κs)) (a .0) _ (are .0) in
       walk 𝓤 H A W mem run (κs .0) (κs .1 .0) (κs .1 .1 .0) (κs .1 .1 .1 .0) (κs .1 .1 .1 .1 .0) (qs .0) (qs .1 .0) (qs .1 .1 .0) (qs .1 .1 .1 .0) (qs .1 .1 .1 .1 .0)
@@ -400,7 +400,7 @@ module _ {M : Type 1} (𝓤 : URA M) (H : Heap 𝓤) (A : Atoms 𝓤) (W : Given
 rows-meets : {M : Type 1} (𝓤 : URA M) (H : Heap 𝓤) (A : Atoms 𝓤) → Given 𝓤 H A → (mem : Memory → SProp 𝓤) (run : Routine → Fun 𝓤) (𝓣 : Tables 𝓤 H) → Triple 𝓤 (𝓣 .C #pages·page·row) (Row 𝓤 H A mem run)
     → Meets 𝓤 H A rows.signature (WpFn 𝓤 H (𝓣 .C) (𝓣 .Λ) code.function) (rows.spec 𝓤 H A mem run)
 rows-meets 𝓤 H A W mem run 𝓣 known =
-    walk-meets 𝓤 H A rows.ended stayed W (writer-stay-goes 4 𝓤 H A W, (goes-none-slice 𝓤 H A W 5 (1 ∷ []) tt (plain (λ _. u8)) yes, (goes-none-slice 𝓤 H A W 5 (2 ∷ []) tt (plain (λ _. u16)) yes, (goes-none-slice 𝓤 H A W 5 (3 ∷ []) tt (plain (λ _. u16)) yes, (goes-none 𝓤 H A W 5 (λ _. Records) yes (λ κs x f. refl), (goes-none-slice 𝓤 H A W 5 (4 ∷ []) tt (plain (λ _. u8)) yes, tt)))))) (rows.clauses 𝓤 H A mem run)
+    walk-meets 𝓤 H A rows.ended stayed W (writer-stay-goes 4 𝓤 H A W, (goes-none-slice 𝓤 H A W 5 (1 ∷ []) tt (plain (λ _. u8)) yes, (goes-none-slice 𝓤 H A W 5 (2 ∷ []) tt (plain (λ _. u16)) yes, (goes-none-slice 𝓤 H A W 5 (3 ∷ []) tt (plain (λ _. u16)) yes, (goes-none 𝓤 H A W 5 (λ _. AllShown) yes (λ κs x f. refl), (goes-none-slice 𝓤 H A W 5 (4 ∷ []) tt (plain (λ _. u8)) yes, tt)))))) (rows.clauses 𝓤 H A mem run)
     (WpFn 𝓤 H (𝓣 .C) (𝓣 .Λ) code.function) (WpFn-mono 𝓤 H (W .laws) 𝓣 code.function) (rows-walks 𝓤 H A W mem run 𝓣 known)
 
 pub rows-spec : {M : Type 1} → stated.statement M

@@ -28,7 +28,7 @@ returns : tie.Need-returns
 returns c =
     let a = c .before .before .before .before .args in
     c .find-place .ensures
-    ∙ ap (λ (w : List ℕ). placeOf turned w (a .ribbon .now)) (part-to (a .bands .now) (a .at) (a .size))
+    ∙ ap (λ (w : List ℕ). placeOf turned 0 w (a .ribbon .now)) (part-to (a .bands .now) (a .at) (a .size))
 
 pub place-of-spec : {M : Type 1} → statement M
 place-of-spec =

@@ -60,12 +60,6 @@ shared-slice-read-n c = search needs
 cast-n : tie.Need-cast-n
 cast-n c = omega (arith, c .shared-slice-known6 .given (begin (c .before .before) .args .i))
 
-mul-place : tie.Need-mul-place
-mul-place c = search needs
-
-array-copy-out-place : tie.Need-array-copy-out-place
-array-copy-out-place c = search needs
-
 sub-put-row : tie.Need-sub-put-row
 sub-put-row c = search needs
 
@@ -73,7 +67,13 @@ part-put-row-start : tie.Need-part-put-row-start
 part-put-row-start c = search needs
 
 part-put-row-end : tie.Need-part-put-row-end
-part-put-row-end c = named (c .before .before .before)
+part-put-row-end c = named (c .before .before)
+
+mul-put-row : tie.Need-mul-put-row
+mul-put-row c = search needs
+
+array-copy-out-put-row : tie.Need-array-copy-out-put-row
+array-copy-out-put-row c = search needs
 
 put-row-requires : tie.Need-put-row-requires
 put-row-requires c κs =
@@ -105,11 +105,11 @@ put-nth-spec =
     mul-n
     shared-slice-read-n
     cast-n
-    mul-place
-    array-copy-out-place
     sub-put-row
     part-put-row-start
     part-put-row-end
+    mul-put-row
+    array-copy-out-put-row
     put-row-requires
     same-length
     returns)

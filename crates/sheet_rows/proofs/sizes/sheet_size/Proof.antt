@@ -5,7 +5,7 @@ use Prim.Native.Nat.{_+_, _*_, _-_, _≤_}
 use lib.ListN.{length, getD}
 use Rattle.lists.specs.Runs.{codesIn}
 use Rattle.sheet_rows.specs.Placed.{placedSheet}
-use Rattle.sheet_rows.proofs.RowParts.{rowsFrom, Reached, at-first, no-rows, rows-long, next-short}
+use Rattle.sheet_rows.proofs.RowParts.{rowsFrom, Reached, at-first, no-rows, rows-long}
 use Rattle.sheet_rows.proofs.RowParts.{name-fits, name-long, reached-more}
 use borrow.Author.Needs.{needs}
 use native.Mathlib.Omega.{arith}
@@ -13,13 +13,13 @@ use Rattle.sheet_rows.proofs.sizes.sheet_size.Statement.{statement}
 use Rattle.sheet_rows.proofs.sizes.sheet_size.Tie as tie
 
 abbrev Inv-loop : tie.InvT-loop
-Inv-loop names sizes lengths ribbon records size₀ from₀ i₀ size from i =
-    let whole = placedSheet (codesIn names sizes) lengths records ribbon in
-    Reached names sizes from i × (size ≤ 22 + 131200 * i)
-    × (size + length (rowsFrom names sizes lengths records ribbon from i) ≡ length whole)
+Inv-loop names sizes lengths ribbon shown size₀ from₀ i₀ size from i =
+    let whole = placedSheet (codesIn names sizes) lengths shown ribbon in
+    Reached names sizes from i × (size ≤ 29 + 131200 * i)
+    × (size + length (rowsFrom names sizes lengths shown ribbon from i) ≡ length whole)
 
 abbrev μ-loop : tie.MeasureT-loop
-μ-loop names sizes lengths ribbon records size₀ from₀ i₀ size from i = length lengths - i
+μ-loop names sizes lengths ribbon shown size₀ from₀ i₀ size from i = length lengths - i
 
 loop-holds : tie.Need-loop-holds Inv-loop μ-loop
 loop-holds c = (at-first (c .before .before .before .before .pre), omega arith, omega arith)
@@ -35,18 +35,6 @@ named : (c : tie.In-loop Inv-loop μ-loop) →
 named c =
     let l = c .before .loop in
     name-fits (begin (c .before) .pre) (l .from) (l .i) (c .loop-test .taken) (l .inv .0)
-
-short : (c : tie.After-row-size Inv-loop μ-loop) → c .row-size .result ≤ 131200
-short c =
-    let k = c .before .before .before .before in
-    let t = k .before in
-    let l = t .before .loop in
-    omega (
-      arith,
-      next-short (begin (t .before) .pre) (l .from) (l .i) (t .loop-test .taken) (l .inv .0)
-          (omega (arith, k .shared-slice-known5 .given (l .i))),
-      c .row-size .ensures,
-    )
 
 mul-to : tie.Need-mul-to Inv-loop μ-loop
 mul-to c = search needs
@@ -69,12 +57,6 @@ shared-slice-read-n c = search needs
 cast-n : tie.Need-cast-n Inv-loop μ-loop
 cast-n c = omega (arith, c .shared-slice-known6 .given (c .before .before .before .loop .i))
 
-mul-place : tie.Need-mul-place Inv-loop μ-loop
-mul-place c = search needs
-
-array-copy-out-place : tie.Need-array-copy-out-place Inv-loop μ-loop
-array-copy-out-place c = omega (arith, begin (c .before .before .before) .pre .few)
-
 sub-row-size : tie.Need-sub-row-size Inv-loop μ-loop
 sub-row-size c = search needs
 
@@ -82,7 +64,13 @@ part-row-size-start : tie.Need-part-row-size-start Inv-loop μ-loop
 part-row-size-start c = search needs
 
 part-row-size-end : tie.Need-part-row-size-end Inv-loop μ-loop
-part-row-size-end c = named (c .before .before .before)
+part-row-size-end c = named (c .before .before)
+
+mul-row-size : tie.Need-mul-row-size Inv-loop μ-loop
+mul-row-size c = search needs
+
+array-copy-out-row-size : tie.Need-array-copy-out-row-size Inv-loop μ-loop
+array-copy-out-row-size c = omega (arith, begin (c .before .before .before .before) .pre .few)
 
 row-size-requires : tie.Need-row-size-requires Inv-loop μ-loop
 row-size-requires c κs =
@@ -98,7 +86,7 @@ row-size-requires c κs =
 add-size : tie.Need-add-size Inv-loop μ-loop
 add-size c =
     let t = c .before .before .before .before .before in
-    omega (arith, short c, t .before .loop .inv .1, begin (t .before) .pre .few, t .loop-test .taken)
+    omega (arith, c .row-size .ensures .1, t .before .loop .inv .1, begin (t .before) .pre .few, t .loop-test .taken)
 
 add-i : tie.Need-add-i Inv-loop μ-loop
 add-i c = search needs
@@ -113,8 +101,8 @@ loop-again c =
     let r = begin (t .before) .pre in
     let long = rows-long r (l .from) (l .i) (t .loop-test .taken) in (
       reached-more r (l .from) (l .i) (t .loop-test .taken) (l .inv .0),
-      omega (arith, short c, l .inv .1),
-      omega (arith, long, c .row-size .ensures, l .inv .2),
+      omega (arith, c .row-size .ensures .1, l .inv .1),
+      omega (arith, long, c .row-size .ensures .0, l .inv .2),
     )
 
 returns : tie.Need-returns Inv-loop μ-loop
@@ -136,11 +124,11 @@ sheet-size-spec =
     mul-n
     shared-slice-read-n
     cast-n
-    mul-place
-    array-copy-out-place
     sub-row-size
     part-row-size-start
     part-row-size-end
+    mul-row-size
+    array-copy-out-row-size
     row-size-requires
     add-size
     add-i
