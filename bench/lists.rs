@@ -60,7 +60,31 @@ pub fn checked() -> Vec<Case> {
         Case::new("nearly all equal, missed", missed, ended(b'A', &end)),
         Case::new("random, 2 letters, held", random(2), behind(2)),
         Case::new("random, 26 letters, held", random(26), behind(26)),
+        Case::new("windows alike, held", ten_apart(), alike()),
     ]
+}
+
+/// All A but B and C, ten bands apart.
+fn ten_apart() -> Vec<Vec<u8>> {
+    let row = ten_apart_each();
+    let code = |number: usize| row[number % (row.len() - BANDS)..][..BANDS].to_vec();
+    (0..CODES).map(code).collect()
+}
+
+/// A row on which all these codes stand.
+fn ten_apart_each() -> Vec<u8> {
+    let run = vec![b'A'; BANDS - 10];
+    [&run[..], b"B", &run[..9], b"C", &run].concat()
+}
+
+/// B and C half a code apart, so that each window of 64 bands has what these codes have, and then
+/// the row on which they stand.
+fn alike() -> Vec<u8> {
+    let end = ten_apart_each();
+    let run = vec![b'A'; BANDS / 2 - 1];
+    let both = [b"B", &run[..], b"C", &run].concat();
+    let before = both.into_iter().cycle().take(SUPPLIED - end.len());
+    before.chain(end).collect()
 }
 
 /// All A but one band, B or C, at each place.

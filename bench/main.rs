@@ -63,7 +63,7 @@ fn works() -> [Work; 4] {
             name: "the sheet",
             ways: three_ways(proved::sheet, same_method::sheet, slices::sheet),
             expected: reference::sheet,
-            room: 16_534,
+            room: 17_181,
             cases: lists::largest(),
             runs: 10,
         },

@@ -402,19 +402,104 @@ enum Found {
     Nowhere,
 }
 
-/// The smallest start below the limit at which a way of c stands on s; the limit where there is none.
-fn first_start(c: &[u8], turned: bool, s: &[u8], limit: usize) -> usize {
-    let mut i = 0;
-    'starts: loop {
-        if i == limit {
-            break limit;
+/// What the bands of a word add up to, as given and turned.
+#[derive(Clone, Copy)]
+struct Sums {
+    given: usize,
+    turned: usize,
+}
+
+/// As many bands as a word has, from a start on, and what they add up to.
+#[derive(Clone, Copy)]
+struct Window {
+    start: usize,
+    sum: usize,
+}
+
+fn sum_of(c: &[u8], turned: bool) -> usize {
+    let mut sum = 0;
+    for i in 0..c.len() {
+        sum += usize::from(band_at(c, turned, i));
+    }
+    sum
+}
+
+fn sums_of(c: &[u8]) -> Sums {
+    Sums {
+        given: sum_of(c, false),
+        turned: sum_of(c, true),
+    }
+}
+
+fn window_at(s: &[u8], start: usize, n: usize) -> Window {
+    Window {
+        start,
+        sum: sum_of(&s[start..start + n], false),
+    }
+}
+
+fn fits(least: usize, sums: Sums, w: Window) -> bool {
+    if w.start < least {
+        return false;
+    }
+    w.sum == sums.given || w.sum == sums.turned
+}
+
+/// The next start that fits, none before the least that is left, or the last one of the row.
+fn next_fit(s: &[u8], n: usize, sums: Sums, from: Window, least: usize) -> Window {
+    let mut w = from;
+    while w.start + n < s.len() {
+        if fits(least, sums, w) {
+            return w;
         }
-        let mut j = 0;
-        while j < c.len() {
-            if band_at(c, turned, j) != s[i + j] {
-                i += 1;
+        w = Window {
+            start: w.start + 1,
+            sum: w.sum - usize::from(s[w.start]) + usize::from(s[w.start + n]),
+        };
+    }
+    w
+}
+
+fn fall_backs(c: &[u8], turned: bool) -> [usize; MOST_HELD + 1] {
+    let mut falls = [0; MOST_HELD + 1];
+    let mut filled = 1;
+    while filled < c.len() {
+        filled = fill_to(c, turned, &mut falls, filled, filled + 1);
+    }
+    falls
+}
+
+/// The smallest start at which either way of c stands on s; one behind the row where there is none.
+fn first_start(c: &[u8], falls: &[usize], turned_falls: &[usize], s: &[u8]) -> usize {
+    let n = c.len();
+    let sums = sums_of(c);
+    let mut w = window_at(s, 0, n);
+    let (mut i, mut j, mut m) = (0, 0, 0);
+    'starts: loop {
+        w = next_fit(s, n, sums, w, i + j - j.max(m));
+        if i + j <= w.start {
+            (i, j, m) = (w.start, 0, 0);
+        }
+        while j < n {
+            let end = i + j;
+            if m == n {
+                break 'starts end - n;
+            }
+            if end == s.len() {
+                break 'starts s.len() + 1;
+            }
+            let x = s[end];
+            if c[j] != x {
+                if j == 0 {
+                    m = go_on(c, true, turned_falls, m, x);
+                    i += 1;
+                    continue 'starts;
+                }
+                i += j - falls[j];
+                j = falls[j];
                 continue 'starts;
             }
+            m = go_on(c, true, turned_falls, m, x);
             j += 1;
         }
         break i;
@@ -425,15 +510,46 @@ fn find_place(c: &[u8], s: &[u8]) -> Found {
     if s.len() < c.len() {
         return Found::Nowhere;
     }
-    let last = s.len() - c.len();
-    let given = first_start(c, false, s, last + 1);
-    let turned = first_start(c, true, s, given);
-    if turned < given {
-        Found::Turned(turned)
-    } else if given <= last {
-        Found::Given(given)
-    } else {
-        Found::Nowhere
+    let start = first_start(c, &fall_backs(c, false), &fall_backs(c, true), s);
+    if s.len() < start {
+        return Found::Nowhere;
+    }
+    if agree(c, false, &s[start..start + c.len()], false, c.len()) {
+        return Found::Given(start);
+    }
+    Found::Turned(start)
+}
+
+/// The number of starts at which either way of c stands on s, each start once.
+fn count_places(c: &[u8], s: &[u8]) -> usize {
+    let n = c.len();
+    if s.len() < n {
+        return 0;
+    }
+    let (falls, turned_falls) = (fall_backs(c, false), fall_backs(c, true));
+    let sums = sums_of(c);
+    let mut w = window_at(s, 0, n);
+    let (mut given, mut turned, mut count, mut end) = (0, 0, 0, 0);
+    while end < s.len() {
+        w = next_fit(s, n, sums, w, end - given.max(turned));
+        if end <= w.start {
+            (end, given, turned) = (w.start, 0, 0);
+        }
+        given = go_on(c, false, &falls, given, s[end]);
+        turned = go_on(c, true, &turned_falls, turned, s[end]);
+        end += 1;
+        if given == n || turned == n {
+            count += 1;
+        }
+    }
+    count
+}
+
+/// How often each code stands, from its place on.
+fn count_each(parts: &Parts, s: &[u8], places: &[Found], counts: &mut [usize]) {
+    for i in 0..parts.count {
+        let (_, start) = way_and_start(places[i]);
+        counts[i] = count_places(parts.part(i), &s[start..]);
     }
 }
 
@@ -496,7 +612,7 @@ fn supplied_fault(bands: &[u8], lengths: &[u16], ribbon: &[u8]) -> u8 {
 
 // The sheet
 
-const HEADING: &[u8] = b"name,way,start,bands\r\n";
+const HEADING: &[u8] = b"name,way,start,bands,places\r\n";
 
 pub fn sheet(case: &Case, out: &mut [u8]) -> Answer {
     Answer::Length(write_sheet(case, out))
@@ -513,7 +629,9 @@ fn write_sheet(case: &Case, out: &mut [u8]) -> u32 {
     let codes = cut(&case.bands, &case.lengths);
     let mut places = [Found::Nowhere; CODES];
     find_places(&codes, ribbon, &mut places);
-    let size = sheet_size(&names, &codes, &places);
+    let mut counts = [0; CODES];
+    count_each(&codes, ribbon, &places, &mut counts);
+    let size = sheet_size(&names, &codes, &places, &counts);
     if out.len() < size {
         return 0;
     }
@@ -522,7 +640,7 @@ fn write_sheet(case: &Case, out: &mut [u8]) -> u32 {
         at = put_row(
             names.part(i),
             codes.part(i).len(),
-            places[i],
+            (places[i], counts[i]),
             ribbon,
             out,
             at,
@@ -583,12 +701,12 @@ fn decimal_size(n: usize) -> usize {
     }
 }
 
-fn sheet_size(names: &Parts, codes: &Parts, places: &[Found]) -> usize {
+fn sheet_size(names: &Parts, codes: &Parts, places: &[Found], counts: &[usize]) -> usize {
     let mut size = HEADING.len();
     for i in 0..codes.count {
         let (way, start) = way_and_start(places[i]);
         size += field_size(names.part(i)) + way.len() + decimal_size(start);
-        size += codes.part(i).len() + 5;
+        size += codes.part(i).len() + decimal_size(counts[i]) + 6;
     }
     size
 }
@@ -636,7 +754,7 @@ fn put_decimal(n: usize, out: &mut [u8], at: usize) -> usize {
 fn put_row(
     name: &[u8],
     size: usize,
-    place: Found,
+    (place, count): (Found, usize),
     ribbon: &[u8],
     out: &mut [u8],
     at: usize,
@@ -649,5 +767,7 @@ fn put_row(
     let at = put_decimal(start, out, at);
     let at = put_word(b",", out, at);
     let at = put_word(&ribbon[start..start + size], out, at);
+    let at = put_word(b",", out, at);
+    let at = put_decimal(count, out, at);
     put_word(b"\r\n", out, at)
 }

@@ -163,6 +163,13 @@ fn place(code: &[u8], row: &[u8]) -> Option<(bool, usize)> {
     Some((part != code, start))
 }
 
+/// At how many starts.
+fn how_often(code: &[u8], row: &[u8]) -> usize {
+    let other = turned(code);
+    let stands = |part: &&[u8]| *part == code || *part == other;
+    row.windows(code.len()).filter(stands).count()
+}
+
 pub fn check(case: &Case, _: &mut [u8]) -> Answer {
     Answer::Verdict(verdict(case))
 }
@@ -203,15 +210,16 @@ fn sheet_of(case: &Case) -> Option<Vec<u8>> {
     let codes = cut(&case.bands, &case.lengths)?;
     let names = names_of(case)?;
     let row = row_of(&codes);
-    let mut sheet = b"name,way,start,bands\r\n".to_vec();
+    let mut sheet = b"name,way,start,bands,places\r\n".to_vec();
     for (name, code) in names.into_iter().zip(codes) {
         let (turned, start) = place(code, &row)?;
+        let places = how_often(code, &row[start..]);
         sheet.extend(field(name));
         sheet.extend(if turned { &b",turned,"[..] } else { b",given," });
         sheet.extend(start.to_string().bytes());
         sheet.push(b',');
         sheet.extend(&row[start..start + code.len()]);
-        sheet.extend(b"\r\n");
+        sheet.extend(format!(",{places}\r\n").bytes());
     }
     Some(sheet)
 }
