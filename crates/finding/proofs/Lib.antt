@@ -1,4 +1,2 @@
--- What bands add up to; what the loops of the search know at each turn, and what follows when they end.
-pub mod Adding
+-- What the loop of the search knows at each turn, and what follows when it ends.
 pub mod Searching
-pub mod Counting

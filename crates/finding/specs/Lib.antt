@@ -1,4 +1,3 @@
--- What a search for the place of a word answers, and what it works with.
+-- What a search for the place of a word answers, and what it is handed.
 pub mod Answers
 pub mod Search
-pub mod Windows

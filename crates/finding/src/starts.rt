@@ -7,13 +7,13 @@ ghost use Rattle.words.specs.Place.{FirstStart, placeOf};
 ghost use Rattle.finding.specs.Answers.{placeIn};
 ghost use Rattle.finding.specs.Search.{Sought};
 use crate::Found;
-use crate::fitting::longer;
-use crate::fitting::next_fit;
-use crate::fitting::sums_of;
-use crate::fitting::window_at;
 use matching::begins_way;
 use matching::fall_backs;
 use matching::go_on;
+use windows::longer;
+use windows::next_fit;
+use windows::sums_of;
+use windows::window_at;
 
 // The smallest start from one on at which either way of c stands on s; one behind the row where there is none. At the start i
 // the first j bands are alike, and m bands of c turned end there. Behind a mismatch the start moves on by what the fall-back

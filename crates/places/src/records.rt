@@ -26,7 +26,7 @@ pub fn count_from(bands: &[u8], at: usize, size: usize, ribbon: &[u8], start: us
     requires { ⌜ (at + size ≤ length (now bands)) × (at + size < 65536) × (1 ≤ size) × (size ≤ 64) × (start ≤ length (now ribbon)) ⌝ }
     ensures { λ r. ⌜ r ≡ countOf turned (take size (drop at (now (bands .entry)))) (drop start (now (ribbon .entry))) ⌝ }
 {
-    finding::count_places(&bands[at..at + size], &ribbon[start..])
+    counting::count_places(&bands[at..at + size], &ribbon[start..])
 }
 
 // Whether there is no place.

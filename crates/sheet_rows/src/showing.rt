@@ -1,13 +1,11 @@
 // What the rows show of where each code stands.
 ghost use mathlib.Core.Path.{_≡_};
 ghost use mathlib.Core.Bool.{true};
-ghost use Prim.Native.Nat.{_+_, _<_, _≤_};
+ghost use Prim.Native.Nat.{_≤_};
 ghost use lib.ListN.{length, take, drop};
-ghost use Rattle.words.specs.Turn.{turned};
-ghost use Rattle.words.specs.Place.{placeOf};
 ghost use Rattle.lists.specs.Fit.{listOk};
-ghost use Rattle.places.specs.Calls.{wayAt, FindsPlaces};
-ghost use Rattle.sheet_rows.specs.Shows.{ShowsCode, ShowsCodes};
+ghost use Rattle.places.specs.Calls.{FindsPlaces};
+ghost use Rattle.sheet_rows.specs.Shows.{HasPlace, ShowsCode, ShowsCodes};
 use crate::Shown;
 use crate::rows::start_of;
 use lists::MOST_CODES;
@@ -18,7 +16,7 @@ use places::count_from;
 // What is shown of the code of so many bands that starts at a number in the lent run. It stands nowhere before its place, so
 // counting begins there.
 fn show_code(bands: &[u8], at: usize, size: usize, ribbon: &[u8], way: Way) -> Shown
-    requires { ⌜ (at + size ≤ length (now bands)) × (at + size < 65536) × (1 ≤ size) × (size ≤ 64) × (length (now ribbon) ≤ 16384) × (wayAt way ≡ placeOf turned 0 (take size (drop at (now bands))) (now ribbon)) ⌝ }
+    requires { ⌜ HasPlace (now bands) at size (now ribbon) way ⌝ }
     ensures { λ r. ⌜ ShowsCode (take size (drop at (now (bands .entry)))) (now (ribbon .entry)) r ⌝ }
 {
     let start = start_of(way) as usize;

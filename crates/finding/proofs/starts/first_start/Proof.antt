@@ -11,8 +11,9 @@ use Rattle.words.specs.Turn.{turned}
 use Rattle.words.specs.Falling.{FallBack}
 use Rattle.words.proofs.Ways.{way-size}
 use Rattle.words.proofs.FallBacks.{falls-fewer}
-use Rattle.finding.specs.Windows.{Windowed}
-use Rattle.finding.proofs.Searching.{longer-of, Seeking, seeking-none, seeking-in, seeking-skip, seeking-jump, seeking-given}
+use Rattle.windows.specs.Windows.{Windowed}
+use Rattle.windows.proofs.Skipping.{longer-of}
+use Rattle.finding.proofs.Searching.{Seeking, seeking-none, seeking-in, seeking-skip, seeking-jump, seeking-given}
 use Rattle.finding.proofs.Searching.{seeking-turned, seeking-nowhere, seeking-more, seeking-next, seeking-fall}
 use Rattle.finding.proofs.starts.first_start.Statement.{statement}
 use Rattle.finding.proofs.starts.first_start.Tie as tie

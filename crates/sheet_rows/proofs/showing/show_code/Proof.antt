@@ -20,7 +20,7 @@ module _ (s : tie.Start) where
   long : length code ≡ s .args .size
   long =
       let a = s .args in
-      length-take-le (a .size) (drop (a .at) (a .bands .now)) (omega (arith, s .pre .0, length-drop (a .at) (a .bands .now)))
+      length-take-le (a .size) (drop (a .at) (a .bands .now)) (omega (arith, s .pre .in-run, length-drop (a .at) (a .bands .now)))
 
 start-of-requires : tie.Need-start-of-requires
 start-of-requires c κs = search needs
@@ -31,19 +31,19 @@ cast-start c = search needs
 count-from-requires : tie.Need-count-from-requires
 count-from-requires c κs =
     let s = begin c in
-    let on = lies (code s) (s .args .ribbon .now) (s .args .way) (s .pre .5) in
-    (s .pre .0, s .pre .1, s .pre .2, s .pre .3, omega (arith, on, c .start-of .ensures))
+    let on = lies (code s) (s .args .ribbon .now) (s .args .way) (s .pre .place) in
+    (s .pre .in-run, s .pre .small, s .pre .some, s .pre .few, omega (arith, on, c .start-of .ensures))
 
 cast-t8 : tie.Need-cast-t8
 cast-t8 c =
     let s = begin (c .before) in
-    let few = count-few (code s) (s .args .ribbon .now) (omega (arith, long s, s .pre .2)) (c .before .start-of .result) in
-    record { fits = omega (arith, few, c .count-from .ensures, s .pre .4) }
+    let few = count-few (code s) (s .args .ribbon .now) (omega (arith, long s, s .pre .some)) (c .before .start-of .result) in
+    record { fits = omega (arith, few, c .count-from .ensures, s .pre .short) }
 
 returns : tie.Need-returns
 returns c =
     let s = begin (c .before) in
-    counted-behind (code s) (s .args .ribbon .now) (s .args .way) (s .pre .5) (c .before .start-of .ensures)
+    counted-behind (code s) (s .args .ribbon .now) (s .args .way) (s .pre .place) (c .before .start-of .ensures)
     (c .count-from .ensures)
 
 pub show-code-spec : {M : Type 1} → statement M

@@ -61,15 +61,16 @@ show-code-requires c κs =
     let t = c .before .before in
     let l = t .before .loop in
     let s = begin t in
-    let code = next-is (fit t) (l .inv .there) (t .loop-test .taken) in (
-      next t .0,
-      next t .1,
-      next t .3,
-      next t .4,
-      s .pre .1,
-      place-is (s .pre .2) (l .i) (t .loop-test .taken)
-          ∙ ap (λ (w : List ℕ). placeOf turned 0 w (s .args .ribbon .now)) (sym code),
-    )
+    let code = next-is (fit t) (l .inv .there) (t .loop-test .taken) in
+    record {
+      in-run = next t .0;
+      small = next t .1;
+      some = next t .3;
+      few = next t .4;
+      short = s .pre .1;
+      place = place-is (s .pre .2) (l .i) (t .loop-test .taken)
+          ∙ ap (λ (w : List ℕ). placeOf turned 0 w (s .args .ribbon .now)) (sym code);
+    }
 
 mul-shown : tie.Need-mul-shown Inv-loop μ-loop
 mul-shown c = record { fits = omega (arith, next (c .before .before .before) .2) }

@@ -1,0 +1,2 @@
+-- How a count passes along a row.
+pub mod Moves

@@ -1,0 +1,2 @@
+-- Windows of bands on a row.
+pub mod Windows
