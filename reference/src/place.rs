@@ -5,6 +5,24 @@
 pub enum Way {
     Given(u32),
     Turned(u32),
+    /// The way of a code that equals its turned form.
+    Either(u32),
+}
+
+impl Way {
+    pub fn start(self) -> u32 {
+        match self {
+            Way::Given(start) | Way::Turned(start) | Way::Either(start) => start,
+        }
+    }
+
+    pub fn word(self) -> &'static str {
+        match self {
+            Way::Given(_) => "given",
+            Way::Turned(_) => "turned",
+            Way::Either(_) => "either",
+        }
+    }
 }
 
 /// One listed code's place.
@@ -19,16 +37,18 @@ pub fn turned(code: &[u8]) -> Vec<u8> {
     code.iter().rev().copied().collect()
 }
 
-/// The smallest start, from a first one on, at which either way of a code
-/// stands; where both stand there the way is given.
+/// The smallest start, from a first one on, at which a code stands, with its
+/// way there.
 pub fn way_from(row: &[u8], code: &[u8], first: u32) -> Option<Way> {
-    let given = start_from(row, code, first).map(Way::Given);
-    let turned = start_from(row, &turned(code), first).map(Way::Turned);
-    // The first of equals is taken, so given stands before turned.
-    [given, turned].into_iter().flatten().min_by_key(|way| {
-        let (Way::Given(start) | Way::Turned(start)) = way;
-        *start
-    })
+    let turned = turned(code);
+    let given_at = start_from(row, code, first);
+    if code == turned {
+        return given_at.map(Way::Either);
+    }
+    let turned_at = start_from(row, &turned, first);
+    // Two words that differ, of one length, never stand at one start.
+    let ways = [given_at.map(Way::Given), turned_at.map(Way::Turned)];
+    ways.into_iter().flatten().min_by_key(|way| way.start())
 }
 
 /// A place for each code in list order, or the lowest code that has none.

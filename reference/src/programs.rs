@@ -5,9 +5,10 @@ use crate::{check_ribbon, lay_ribbon, read_orders, write_sheet};
 use crate::{Checked, Place, Refusal, Way};
 
 const LIST_BANDS: usize = CODES * CODE_BANDS;
-/// A row: the name quoted and all quotes, the longer way, a start of four
-/// digits, the bands, three commas and CR LF. The heading row is shorter.
-const SHEET_BYTES: usize = (CODES + 1) * (2 * NAME_BYTES + 2 + 6 + 4 + CODE_BANDS + 3 + 2);
+/// A row: the name quoted and all quotes, a way of six letters, a start of four
+/// digits, the bands, a number of places of four digits, four commas and CR LF.
+/// The heading row is shorter.
+const SHEET_BYTES: usize = (CODES + 1) * (2 * NAME_BYTES + 2 + 6 + 4 + CODE_BANDS + 4 + 4 + 2);
 
 /// An order list as it was read.
 struct List {

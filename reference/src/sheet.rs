@@ -38,12 +38,9 @@ pub fn write_sheet(
 }
 
 fn row(name: &[u8], way: Way, code: &[u8], ribbon: &[u8]) -> Vec<u8> {
-    let (word, start) = match way {
-        Way::Given(start) => ("given", start),
-        Way::Turned(start) => ("turned", start),
-    };
+    let start = way.start();
     let bands = &ribbon[start as usize..][..code.len()];
-    let middle = format!(",{word},{start},");
+    let middle = format!(",{},{start},", way.word());
     let end = format!(",{}\r\n", how_often(ribbon, code));
     [&field(name)[..], middle.as_bytes(), bands, end.as_bytes()].concat()
 }

@@ -58,7 +58,7 @@ fn a_wrong_program_is_found_out() {
 
 #[test]
 fn a_wrong_sheet_is_found_out() {
-    for fault in ["ways", "once", "quotes"] {
+    for fault in ["ways", "given", "either", "once", "quotes"] {
         is_found_out("sheet", fault, "40");
     }
     // A number of places whose last digit alone is written.

@@ -31,10 +31,11 @@ fn the_smallest_start_of_either_way() {
     }
 }
 
+// Given by document 01, until document 02's M-103.
 #[test]
-fn where_both_ways_stand_the_way_is_given() {
+fn where_both_ways_stand_the_way_is_either() {
     for code in ["A", "AA", "ABA", "ABBA"] {
-        assert_eq!(way(code, &format!("XY{code}")), Way::Given(2), "{code}");
+        assert_eq!(way(code, &format!("XY{code}")), Way::Either(2), "{code}");
     }
 }
 
@@ -44,7 +45,7 @@ fn a_record_for_each_listed_code_in_list_order() {
     let list = List::of(&["B", "ABC", "CBA", "CD"]);
     let record = |code, way| Place { code, way };
     let expected = [
-        record(0, Way::Given(2)),
+        record(0, Way::Either(2)),
         record(1, Way::Given(1)),
         record(2, Way::Turned(1)),
         record(3, Way::Given(3)),

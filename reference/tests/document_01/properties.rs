@@ -123,6 +123,7 @@ fn fields(name: &str, code: &str, way: Option<Way>, places: usize) -> Vec<Vec<u8
     let (word, start, bands) = match way.expect("the code stands on its ribbon") {
         Way::Given(start) => ("given", start, code.to_string()),
         Way::Turned(start) => ("turned", start, turned(code)),
+        Way::Either(start) => ("either", start, code.to_string()),
     };
     [name, word, &start.to_string(), &bands, &places.to_string()]
         .map(Vec::from)

@@ -179,7 +179,7 @@ fn number_13_each_lent_buffer() {
     let list = List::of(&["AB", "BC", "B"]);
     // The ribbon ABC; three records, the dropped code's too; with CR LF a
     // heading of 29 bytes, N0,given,0,AB,1 and N1,given,1,BC,1 of 17 each and
-    // N2,given,1,B,1 of 16.
+    // N2,either,1,B,1 of 17.
     assert_eq!(
         list.lay(&mut [0; 3]),
         Ok(Laid {
@@ -193,7 +193,7 @@ fn number_13_each_lent_buffer() {
     assert_eq!(check(3), Ok(Checked::Held(0)));
     assert_eq!(check(2), Err(refusal(13, 0)));
     assert_eq!(check(0), Err(refusal(13, 0)));
-    let length = 29 + 17 + 17 + 16;
+    let length = 29 + 17 + 17 + 17;
     assert_eq!(
         list.sheet(&mut vec![0; length]),
         Ok(Sheet { length, saved: 1 })

@@ -44,9 +44,9 @@ fn a_name_is_quoted_only_if_it_holds_a_comma_or_a_quote() {
 
 #[test]
 fn dropped_codes_have_rows_too() {
-    // The ribbon is ABC: BA is turned at 0, B stands both ways.
+    // The ribbon is ABC: BA is turned at 0, and B looks alike from both ends.
     let sheet = rows(&[("a", "BA"), ("b", "ABC"), ("c", "B"), ("d", "ABC")]);
-    let expected = "a,turned,0,AB,1\r\nb,given,0,ABC,1\r\nc,given,1,B,1\r\nd,given,0,ABC,1\r\n";
+    let expected = "a,turned,0,AB,1\r\nb,given,0,ABC,1\r\nc,either,1,B,1\r\nd,given,0,ABC,1\r\n";
     assert_eq!(sheet, expected);
 }
 

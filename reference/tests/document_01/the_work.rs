@@ -100,7 +100,7 @@ fn the_longest_names_and_128_codes_have_room() {
     let rows: String = (0..128).map(row).collect();
     let list = format!("name,code\r\n{rows}");
     let expected: String = (0..128)
-        .map(|i| format!("{},given,0,{band},1\r\n", field(i)))
+        .map(|i| format!("{},either,0,{band},1\r\n", field(i)))
         .collect();
     let expected = format!("name,way,start,bands,places\r\n{expected}");
     assert_eq!(sheet_output(list.as_bytes()), expected.as_bytes());

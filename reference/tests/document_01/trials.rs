@@ -99,13 +99,18 @@ fn stands(ribbon: &str, start: usize, way: &str) -> bool {
     ribbon[start..].starts_with(way)
 }
 
-/// The first start at which a way stands, given before turned.
+/// The first start at which a way stands, with that way; either where both do,
+/// as document 02's M-103 has it.
 pub fn expected_ways(codes: &[String], row: &str) -> Vec<Option<Way>> {
     let at = |code: &String, start: usize| {
-        if stands(row, start, code) {
-            return Some(Way::Given(start as u32));
-        }
-        stands(row, start, &turned(code)).then_some(Way::Turned(start as u32))
+        let ways = [code.clone(), turned(code)];
+        let way = match ways.map(|way| stands(row, start, &way)) {
+            [true, true] => Way::Either,
+            [true, false] => Way::Given,
+            [false, true] => Way::Turned,
+            [false, false] => return None,
+        };
+        Some(way(start as u32))
     };
     let way = |code| (0..row.len()).find_map(|start| at(code, start));
     codes.iter().map(way).collect()

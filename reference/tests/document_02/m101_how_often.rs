@@ -1,61 +1,15 @@
 //! M-101: finding a place takes a first start, and the sheet says at how many
 //! starts a code stands.
-//!
-//! Starts are looked at one by one here, band by band, as document 01's prose
-//! has it.
 
 use crate::chance::Chance;
 use crate::common::*;
-use reference::Way::{self, Given, Turned};
-use reference::{how_often, sheet_output, way_from};
-
-/// All the bands of a way follow one another from this start.
-fn stands(row: &str, way: &str, start: usize) -> bool {
-    let row: Vec<char> = row.chars().collect();
-    let follows = |(i, band): (usize, char)| row.get(start + i) == Some(&band);
-    way.chars().enumerate().all(follows)
-}
-
-fn turned(code: &str) -> String {
-    code.chars().rev().collect()
-}
-
-/// Every start at which either way stands, with the way; given where both do.
-fn all_ways(row: &str, code: &str) -> Vec<Way> {
-    let mut ways = Vec::new();
-    for start in 0..row.len() {
-        let at = start as u32;
-        if stands(row, code, start) {
-            ways.push(Given(at));
-        } else if stands(row, &turned(code), start) {
-            ways.push(Turned(at));
-        }
-    }
-    ways
-}
-
-fn start_of(way: Way) -> u32 {
-    match way {
-        Given(start) | Turned(start) => start,
-    }
-}
-
-fn from(row: &str, code: &str, first: u32) -> Option<Way> {
-    way_from(row.as_bytes(), code.as_bytes(), first)
-}
+use crate::starts::{all_ways, from, sheet, turned, HEADING};
+use reference::Way::{Either, Given, Turned};
+use reference::{how_often, sheet_output, Way};
 
 fn count(row: &str, code: &str) -> usize {
     how_often(row.as_bytes(), code.as_bytes())
 }
-
-/// The rows of the sheet of these codes, under the names N0, N1 and so on.
-fn sheet(codes: &[&str]) -> Vec<String> {
-    let text = String::from_utf8(List::of(codes).sheet_bytes()).unwrap();
-    let rows = text.strip_suffix("\r\n").expect("each row ends in CR LF");
-    rows.split("\r\n").map(str::to_string).collect()
-}
-
-const HEADING: &str = "name,way,start,bands,places";
 
 #[test]
 fn the_smallest_place_from_a_first_start_on() {
@@ -86,8 +40,8 @@ fn a_place_that_begins_before_the_first_start_is_none() {
     assert_eq!(from("ABCD", "DCB", 1), Some(Turned(1)));
     assert_eq!(from("ABCD", "DCB", 2), None);
     // Occurrences that overlap are places each.
-    assert_eq!(from("AAAA", "AA", 1), Some(Given(1)));
-    assert_eq!(from("ABABA", "ABA", 1), Some(Given(2)));
+    assert_eq!(from("AAAA", "AA", 1), Some(Either(1)));
+    assert_eq!(from("ABABA", "ABA", 1), Some(Either(2)));
     assert_eq!(from("ABABA", "AB", 1), Some(Turned(1)));
 }
 
@@ -95,7 +49,7 @@ fn a_place_that_begins_before_the_first_start_is_none() {
 fn at_the_last_start_at_the_rows_end_and_behind_it() {
     for (code, last) in [("C", 3), ("BC", 2), ("CB", 2)] {
         let way = from("AABC", code, last);
-        assert_eq!(way.map(start_of), Some(last), "{code}");
+        assert_eq!(way.map(Way::start), Some(last), "{code}");
         assert_eq!(from("AABC", code, last + 1), None, "{code}");
     }
     // The row has bands 0 to 3: 4 is its end.
@@ -107,19 +61,19 @@ fn at_the_last_start_at_the_rows_end_and_behind_it() {
     assert_eq!(from("AB", "ABC", 0), None);
     // The longest ribbon there is.
     let row = "A".repeat(16_384);
-    assert_eq!(from(&row, "A", 16_383), Some(Given(16_383)));
+    assert_eq!(from(&row, "A", 16_383), Some(Either(16_383)));
     assert_eq!(from(&row, "A", 16_384), None);
-    assert_eq!(from(&row, "AA", 16_382), Some(Given(16_382)));
+    assert_eq!(from(&row, "AA", 16_382), Some(Either(16_382)));
     assert_eq!(from(&row, "AA", 16_383), None);
 }
 
 #[test]
-fn the_way_is_given_where_both_stand() {
+fn from_a_first_start_on_where_both_ways_stand() {
     for code in ["A", "AA", "ABA", "ABBA"] {
         let row = format!("{code}XY{code}");
         let second = code.len() as u32 + 2;
-        assert_eq!(from(&row, code, 0), Some(Given(0)), "{code}");
-        assert_eq!(from(&row, code, 1), Some(Given(second)), "{code}");
+        assert_eq!(from(&row, code, 0), Some(Either(0)), "{code}");
+        assert_eq!(from(&row, code, 1), Some(Either(second)), "{code}");
         assert_eq!(from(&row, code, second + 1), None, "{code}");
     }
 }
@@ -195,7 +149,7 @@ fn pump_fan_and_lamp_show_1() {
 fn places_is_the_last_field() {
     // AAAA holds AA at 0, 1 and 2, and A at all four.
     let rows = sheet(&["AAAA", "AA", "A"]);
-    let expected = ["N0,given,0,AAAA,1", "N1,given,0,AA,3", "N2,given,0,A,4"];
+    let expected = ["N0,either,0,AAAA,1", "N1,either,0,AA,3", "N2,either,0,A,4"];
     assert_eq!(rows[0], HEADING);
     assert_eq!(rows[1..], expected);
 }
@@ -204,15 +158,15 @@ fn places_is_the_last_field() {
 fn counted_on_the_whole_ribbon() {
     // BBBABBC: ABB stands turned at 1 and as given at 3.
     let rows = sheet(&["ABB", "BBC", "BBB"]);
-    let expected = ["N0,turned,1,BBA,2", "N1,given,4,BBC,1", "N2,given,0,BBB,1"];
+    let expected = ["N0,turned,1,BBA,2", "N1,given,4,BBC,1", "N2,either,0,BBB,1"];
     assert_eq!(rows[1..], expected);
     // CAAABBB: AA stands at 1 and 2, BB at 4 and 5.
     let rows = sheet(&["AABB", "AAAC", "ABBB", "AA", "BB", "B"]);
-    let expected = ["N3,given,1,AA,2", "N4,given,4,BB,2", "N5,given,4,B,3"];
+    let expected = ["N3,either,1,AA,2", "N4,either,4,BB,2", "N5,either,4,B,3"];
     assert_eq!(rows[4..], expected);
     // ABC: what two codes share counts once.
     let rows = sheet(&["AB", "BC", "B"]);
-    let expected = ["N0,given,0,AB,1", "N1,given,1,BC,1", "N2,given,1,B,1"];
+    let expected = ["N0,given,0,AB,1", "N1,given,1,BC,1", "N2,either,1,B,1"];
     assert_eq!(rows[1..], expected);
 }
 
@@ -233,12 +187,12 @@ fn dropped_codes_are_counted_each() {
 fn numbers_of_two_three_and_four_digits() {
     let tens = "A".repeat(10);
     let rows = sheet(&[&tens, "AA", "A"]);
-    assert_eq!(rows[2..], ["N1,given,0,AA,9", "N2,given,0,A,10"]);
+    assert_eq!(rows[2..], ["N1,either,0,AA,9", "N2,either,0,A,10"]);
     // X, 50 A, Y, and Z, 50 A, W share nothing.
     let fifty = "A".repeat(50);
     let codes = [format!("X{fifty}Y"), format!("Z{fifty}W")];
     let rows = sheet(&[&codes[0], &codes[1], "A", "AA"]);
-    assert_eq!(rows[3..], ["N2,given,1,A,100", "N3,given,1,AA,98"]);
+    assert_eq!(rows[3..], ["N2,either,1,A,100", "N3,either,1,AA,98"]);
     // Each of 17 codes, B 62 A C and so on, shares a band with the next.
     let letters: Vec<char> = ('B'..='S').collect();
     let many = "A".repeat(62);
@@ -248,19 +202,19 @@ fn numbers_of_two_three_and_four_digits() {
     codes.extend(["A", "AA"]);
     // 17 times 62, and 17 times 61.
     let rows = sheet(&codes);
-    assert_eq!(rows[18..], ["N17,given,1,A,1054", "N18,given,1,AA,1037"]);
+    assert_eq!(rows[18..], ["N17,either,1,A,1054", "N18,either,1,AA,1037"]);
 }
 
 #[test]
 fn the_room_for_a_number_is_counted() {
-    // Ten bands and the heading of 29: rows of 25 and 17 bytes.
+    // Ten bands and the heading of 29: rows of 26 and 18 bytes.
     let tens = "A".repeat(10);
     let list = List::of(&[&tens, "A"]);
-    let wrote = list.sheet(&mut marked_bytes(71)).unwrap();
-    assert_eq!(wrote.length, 71);
-    let mut out = marked_bytes(70);
+    let wrote = list.sheet(&mut marked_bytes(73)).unwrap();
+    assert_eq!(wrote.length, 73);
+    let mut out = marked_bytes(72);
     assert_eq!(list.sheet(&mut out), Err(refusal(13, 0)));
-    assert_eq!(out, marked_bytes(70));
+    assert_eq!(out, marked_bytes(72));
 }
 
 /// A small row and a code, over few bands.
@@ -284,7 +238,7 @@ fn the_smallest_from_each_first_start_on() {
         let (row, code) = row_and_code(&mut chance);
         let ways = all_ways(&row, &code);
         for first in 0..row.len() as u32 + 3 {
-            let expected = ways.iter().copied().find(|way| start_of(*way) >= first);
+            let expected = ways.iter().copied().find(|way| way.start() >= first);
             assert_eq!(from(&row, &code, first), expected, "{code} on {row}");
             some += usize::from(expected.is_some());
             none += usize::from(expected.is_none());
@@ -301,9 +255,9 @@ fn going_from_place_to_place_counts_as_many() {
         let (row, code) = row_and_code(&mut chance);
         let (mut ways, mut first) = (Vec::new(), 0);
         while let Some(way) = from(&row, &code, first) {
-            assert!(start_of(way) >= first, "{code} on {row}");
+            assert!(way.start() >= first, "{code} on {row}");
             ways.push(way);
-            first = start_of(way) + 1;
+            first = way.start() + 1;
         }
         assert_eq!(ways, all_ways(&row, &code), "{code} on {row}");
         assert_eq!(count(&row, &code), ways.len(), "{code} on {row}");

@@ -9,5 +9,7 @@ mod chance;
 mod common;
 
 mod m101_how_often;
+mod m103_either;
 mod m105_one_pass;
 mod m112_number_14;
+mod starts;

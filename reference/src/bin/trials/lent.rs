@@ -67,19 +67,17 @@ impl Held for Place {
     }
 
     fn say(self, text: &mut Text) {
-        let (word, start) = match self.way {
-            Way::Given(start) => ("given", start),
-            Way::Turned(start) => ("turned", start),
-        };
+        let (word, start) = (self.way.word(), self.way.start());
         text.say(&format!("{} {word} {start}", self.code));
     }
 
     fn feed(self, text: &mut Text) {
-        let (way, start) = match self.way {
-            Way::Given(start) => (0, start),
-            Way::Turned(start) => (1, start),
+        let way = match self.way {
+            Way::Given(_) => 0,
+            Way::Turned(_) => 1,
+            Way::Either(_) => 2,
         };
-        for number in [self.code, way, start] {
+        for number in [self.code, way, self.way.start()] {
             text.feed(number);
         }
     }

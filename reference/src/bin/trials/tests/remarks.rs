@@ -1,4 +1,4 @@
-//! The remarks in the file of cases, which say by hand from document 01 how
+//! The remarks in the file of cases, which say by hand from the documents how
 //! lines of a case's text begin, against what the library gives.
 
 use crate::calls::run;

@@ -112,14 +112,19 @@ fn records_are_said_or_fed_as_three_numbers() {
     let records = [
         place(0, Way::Given(2)),
         place(1, Way::Turned(0)),
-        place(1_002, Way::Given(2_002)),
-        place(1_003, Way::Given(2_003)),
+        place(2, Way::Either(4)),
+        place(1_003, Way::Turned(2_003)),
         place(1_004, Way::Turned(2_004)),
+        place(1_005, Way::Either(2_005)),
+        place(1_006, Way::Given(2_006)),
     ];
-    let fed = [1_002, 0, 2_002, 1_003, 0, 2_003, 1_004, 1, 2_004];
+    let ways = [1, 1, 2, 0];
+    let fed = [3, 4, 5, 6].map(|i| [1_000 + i, ways[i as usize - 3], 2_000 + i]);
     let mut text = Text::default();
-    text.lent("a", &records, 2);
-    assert_text(text, "a,5,0 given 2;1 turned 0,kept,1\n", &fed);
+    text.lent("a", &records, 3);
+    // The second behind the result was given, and the third turned.
+    let said = "a,7,0 given 2;1 turned 0;2 either 4,kept,2\n";
+    assert_text(text, said, fed.as_flattened());
 }
 
 /// Document 01's example.
@@ -143,6 +148,21 @@ sheet,written,92,5
 rows,93,name,way,start,bands,places\\r\\nPump,given,2,AABB,1\\r\\nFan,turned,0,CAAA,1\\r\\nLamp,given,3,ABBB,1\\r\\n,kept,1
 ";
     assert_eq!(said_of(line), expected);
+}
+
+/// Document 02, M-103.
+#[test]
+fn the_text_of_codes_that_look_alike() {
+    let text = said_of("list ABAACABA 3,3,2 PQR 3x1 XACABA 5,3,82");
+    let end = "check,held,1
+records,3,0 either 3;1 either 1;2 turned 3,kept,0
+places,held,1
+found,128,0 either 3;1 either 1;2 turned 3,kept,125
+only,held,1
+sheet,written,82,1
+rows,82,name,way,start,bands,places\\r\\nP,either,0,ABA,1\\r\\nQ,either,2,ACA,1\\r\\nR,turned,0,AB,2\\r\\n,kept,0
+";
+    assert!(text.ends_with(end), "{text}");
 }
 
 /// The check gives 13 only where it would answer held.
@@ -173,7 +193,8 @@ found,128,,kept,128
 fn a_difference_below_zero() {
     // ABB, BBC, BBB are laid out as BBBABBC, and ABBBC has two bands less.
     let text = said_of("list ABBBBCBBB 3x3 abc 3x1 ABBBC 7,500,99");
-    assert!(text.contains("\ncheck,held,-2\nrecords,130,0 given 0;1 given 2;2 given 1,kept,127\n"));
+    let records = "records,130,0 given 0;1 given 2;2 either 1,kept,127";
+    assert!(text.contains(&format!("\ncheck,held,-2\n{records}\n")));
 }
 
 #[test]
