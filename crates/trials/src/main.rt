@@ -13,7 +13,7 @@ use libc::STDIN_FILENO;
 use libc::STDOUT_FILENO;
 
 // the most bytes of a file of cases
-const ROOM: usize = 65536;
+const ROOM: usize = 131072;
 
 // The first letter of the first argument, which tells what texts are printed; 0 if there is none.
 fn mode() -> u8 {

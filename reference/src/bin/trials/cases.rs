@@ -3,7 +3,7 @@
 use crate::families::Family;
 use crate::fields::{bytes, decimal, numbers, rooms, Fault};
 
-const MOST_FILE_BYTES: usize = 65_536;
+const MOST_FILE_BYTES: usize = 131_072;
 
 pub struct Group {
     pub title: String,
@@ -59,7 +59,7 @@ pub fn groups(file: &[u8]) -> Result<Vec<Group>, String> {
     if file.len() > MOST_FILE_BYTES {
         let before = file[..MOST_FILE_BYTES].iter().filter(|byte| is_lf(byte));
         let line = before.count() + 1;
-        return Err(format!("line {line}: the file has over 65,536 bytes"));
+        return Err(format!("line {line}: the file has over 131,072 bytes"));
     }
     let mut groups = Vec::new();
     for (number, line) in (1..).zip(file.split(is_lf)) {

@@ -63,19 +63,19 @@ fn lines_that_are_right() {
 }
 
 #[test]
-fn a_file_of_65536_bytes_and_one_of_65537() {
+fn a_file_of_131072_bytes_and_one_of_131073() {
     let line = format!("#{}\n", "a".repeat(16_382));
-    let lacking = line.repeat(4);
-    assert_eq!(lacking.len(), 65_536);
-    let right = [&lacking[..], &format!("{}b", &lacking[..65_535])];
+    let lacking = line.repeat(8);
+    assert_eq!(lacking.len(), 131_072);
+    let right = [&lacking[..], &format!("{}b", &lacking[..131_071])];
     for file in right {
         assert!(groups(file.as_bytes()).is_ok());
     }
     for (file, line) in [
-        (format!("{lacking}\n"), 5),
-        (format!("{lacking}b"), 5),
-        (format!("{}bb", &lacking[..65_535]), 4),
-        (format!("{}b\n", &lacking[..65_535]), 4),
+        (format!("{lacking}\n"), 9),
+        (format!("{lacking}b"), 9),
+        (format!("{}bb", &lacking[..131_071]), 8),
+        (format!("{}b\n", &lacking[..131_071]), 8),
     ] {
         let fault = groups(file.as_bytes()).err().unwrap();
         assert!(fault.starts_with(&format!("line {line}: ")), "{fault}");
