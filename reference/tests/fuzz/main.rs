@@ -72,6 +72,7 @@ fn wrong_programs_are_found_out() {
         for (program, fault) in [
             ("ribbon", "said"),
             ("sheet", "killed"),
+            ("sheet", "given"),
             ("check", "silence"),
             ("check", "row"),
         ] {

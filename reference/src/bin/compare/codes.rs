@@ -112,6 +112,41 @@ pub fn at_many_starts(chance: &mut Chance) -> Vec<Code> {
     codes
 }
 
+/// Codes that look alike from both ends and such as nearly do, short and as
+/// long as codes may be, some of them inside others.
+pub fn looking_alike(chance: &mut Chance) -> Vec<Code> {
+    let letters = letters(chance);
+    let longest = chance.one_of(&[2, 4, 8, 16, MOST_BANDS / 2]);
+    let mut codes: Vec<Code> = Vec::new();
+    for _ in 0..chance.between(1, 10) {
+        let half = match codes.is_empty() || chance.one_in(2) {
+            true => fresh(chance, &letters, longest),
+            false => some_part(chance, &codes, longest),
+        };
+        codes.push(alike_or_nearly(chance, &letters, &half));
+    }
+    chance.shuffle(&mut codes);
+    codes
+}
+
+/// So many bands at most of some code.
+fn some_part(chance: &mut Chance, codes: &[Code], longest: usize) -> Code {
+    let code = &codes[chance.below(codes.len())];
+    let (start, end) = chance.part(code.len());
+    code[start..end.min(start + longest)].to_vec()
+}
+
+/// A half and the same turned, with the middle band twice or once; in some of
+/// them a band is changed, or one at an end left out.
+fn alike_or_nearly(chance: &mut Chance, letters: &[u8], half: &[u8]) -> Code {
+    let alike = [half, &turned(half)[chance.below(2)..]].concat();
+    match chance.below(6) {
+        0 | 1 => one_band_changed(chance, letters, &alike),
+        2 if alike.len() > 1 => alike[1..].to_vec(),
+        _ => alike,
+    }
+}
+
 /// Codes of which most are made from earlier ones.
 fn family(chance: &mut Chance, count: usize, longest: usize) -> Vec<Code> {
     let letters = letters(chance);

@@ -13,8 +13,11 @@ type Make = fn(&mut Chance) -> Vec<u8>;
 pub const AT_THE_BOUND: &str = "at the bound";
 
 /// Few of the largest, as they take the longest to lay out.
-pub const KINDS: [Kind<Make>; 21] = [
-    kind("few codes", 230, |chance| list_of(chance, few)),
+pub const KINDS: [Kind<Make>; 22] = [
+    kind("few codes", 190, |chance| list_of(chance, few)),
+    kind("codes that look alike", 40, |chance| {
+        list_of(chance, looking_alike)
+    }),
     kind("codes at many starts", 10, |chance| {
         list_of(chance, at_many_starts)
     }),

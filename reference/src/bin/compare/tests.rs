@@ -1,6 +1,6 @@
 //! The generator makes what it says, and no fault goes unseen in the counts.
 
-use crate::codes::{at_many_starts, few, turned, Code, MOST_CODES};
+use crate::codes::{at_many_starts, few, looking_alike, turned, Code, MOST_CODES};
 use crate::damage::DAMAGES;
 use crate::faults::{numbers_for, put};
 use crate::inputs::{input, Input};
@@ -308,6 +308,47 @@ fn codes_stand_at_up_to_a_thousand_starts_and_more() {
     };
     let digits: BTreeSet<usize> = (0..60).map(digits).collect();
     assert_eq!(digits, [2, 3, 4].into());
+}
+
+/// The pairs of bands, as far from either end, that differ.
+fn pairs_that_differ(code: &Code) -> usize {
+    let pairs = code.iter().zip(code.iter().rev());
+    pairs.filter(|(band, other)| band != other).count() / 2
+}
+
+#[test]
+fn codes_look_alike_or_differ_in_a_pair() {
+    // By that, odd or even, short or long, for codes of more than one colour.
+    let mut counts = [[[0; 2]; 2]; 2];
+    for number in 0..400 {
+        for code in looking_alike(&mut Chance::of(10, number)) {
+            assert!((1..=64).contains(&code.len()), "{code:?}");
+            let differing = pairs_that_differ(&code);
+            assert_eq!(differing == 0, code == turned(&code));
+            if differing < 2 && code.iter().any(|band| *band != code[0]) {
+                let (odd, long) = (code.len() % 2, usize::from(code.len() > 16));
+                counts[differing][odd][long] += 1;
+            }
+        }
+    }
+    let counts = counts.as_flattened().as_flattened();
+    assert!(counts.iter().all(|count| *count > 20), "{counts:?}");
+}
+
+#[test]
+fn sheets_of_codes_that_look_alike_have_every_way() {
+    let words = |number| {
+        let mut chance = Chance::of(11, number);
+        let codes = looking_alike(&mut chance);
+        let list = order_list(&mut chance, &codes);
+        let sheet = String::from_utf8(reference::sheet_output(&list)).unwrap();
+        ["given", "turned", "either"].map(|word| sheet.contains(&format!(",{word},")))
+    };
+    let words: Vec<[bool; 3]> = (0..100).map(words).collect();
+    for (i, least) in [25, 15, 75].into_iter().enumerate() {
+        let count = words.iter().filter(|words| words[i]).count();
+        assert!(count > least, "{i}: {count}");
+    }
 }
 
 #[test]

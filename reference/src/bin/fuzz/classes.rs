@@ -5,7 +5,10 @@ use crate::trial::Trial;
 use reference::drive::outcomes::{outcome_of, Outcome};
 use reference::drive::programs::Program;
 
-pub type Class = (Program, Outcome, [Size; 5]);
+pub type Class = (Program, Outcome, Ways, [Size; 5]);
+
+/// Whether a sheet has the way given, turned, either; none where there is no sheet.
+pub type Ways = [bool; 3];
 
 /// Exact where it is small or at a limit, else to a power of two.
 #[derive(Clone, Copy, Debug, PartialEq, Eq, PartialOrd, Ord)]
@@ -38,7 +41,14 @@ pub fn class(trial: &Trial) -> Class {
         ribbon,
         quotes,
     ];
-    (trial.program, outcome_of(expected), sizes.map(size))
+    let outcome = outcome_of(expected);
+    (trial.program, outcome, ways(expected), sizes.map(size))
+}
+
+/// Names may hold these words too; roughly is enough.
+fn ways(expected: &[u8]) -> Ways {
+    let text = String::from_utf8_lossy(expected);
+    [",given,", ",turned,", ",either,"].map(|word| text.contains(word))
 }
 
 /// The row, the difference or the code of an answer in one line, the last

@@ -79,6 +79,29 @@ fn classes_tell_programs_numbers_and_rows_apart() {
 }
 
 #[test]
+fn classes_tell_the_ways_on_a_sheet_apart() {
+    let lists = ["ABC,DEF", "AAB,ABA", "ABA,ABB", "ABB,BBA", "AAB,BAA"];
+    let of = |program, codes: &str| {
+        let (one, other) = codes.split_once(',').unwrap();
+        let list = format!("name,code\r\nP,{one}\r\nQ,{other}\r\n");
+        class(&trial(program, list.as_bytes()))
+    };
+    let of_sheets = lists.map(|codes| of(Program::Sheet, codes));
+    let ways = of_sheets.map(|class| class.2);
+    assert_eq!(ways[0], [true, false, false]);
+    assert_eq!(ways[1], [true, false, true]);
+    assert_eq!(ways[3], [true, true, false]);
+    assert_eq!(of_sheets[1], of_sheets[2]);
+    assert_eq!(of_sheets[3], of_sheets[4]);
+    // Turned and either have as many letters, so that all sizes are the same.
+    assert_eq!(of_sheets[2].3, of_sheets[3].3);
+    assert_ne!(of_sheets[2], of_sheets[3]);
+    // Ribbons have no ways.
+    let ribbon = of(Program::Ribbon, lists[0]);
+    assert_eq!(ribbon.2, [false; 3]);
+}
+
+#[test]
 fn a_corpus_keeps_what_is_new() {
     let file = |name: &str| Path::new(env!("CARGO_MANIFEST_DIR")).join("..").join(name);
     let lists = [file("examples/bench.csv"), file("examples/workshop.csv")];
