@@ -33,6 +33,7 @@ pub fn largest() -> Vec<Case> {
         Case::new("nearly all equal", nearly_equal(), Vec::new()),
         Case::new("already chained", chained(), Vec::new()),
         Case::new("127 contained in one", contained(), Vec::new()),
+        Case::new("look alike from both ends", looking_alike(), Vec::new()),
     ]
 }
 
@@ -58,9 +59,10 @@ pub fn checked() -> Vec<Case> {
     vec![
         Case::new("nearly all equal, held", one_odd_band(), ended(b'A', &end)),
         Case::new("nearly all equal, missed", missed, ended(b'A', &end)),
-        Case::new("random, 2 letters, held", random(2), behind(2)),
-        Case::new("random, 26 letters, held", random(26), behind(26)),
+        behind("random, 2 letters, held", random(2), 2),
+        behind("random, 26 letters, held", random(26), 26),
         Case::new("windows alike, held", ten_apart(), alike()),
+        behind("look alike, held", looking_alike(), 26),
     ]
 }
 
@@ -110,11 +112,11 @@ fn ended(band: u8, end: &[u8]) -> Vec<u8> {
         .collect()
 }
 
-/// The random codes end to end behind as many other bands.
-fn behind(letters: usize) -> Vec<u8> {
-    let end = random(letters).concat();
+/// Codes that stand end to end behind as many other bands.
+fn behind(name: &'static str, codes: Vec<Vec<u8>>, letters: usize) -> Case {
+    let end = codes.concat();
     let other = Random(5).bands(SUPPLIED - end.len(), letters);
-    [other, end].concat()
+    Case::new(name, codes, [other, end].concat())
 }
 
 /// A linear congruential generator (Knuth's MMIX); its upper bits are used.
@@ -139,6 +141,16 @@ impl Random {
 fn random(letters: usize) -> Vec<Vec<u8>> {
     let mut random = Random(1);
     (0..CODES).map(|_| random.bands(BANDS, letters)).collect()
+}
+
+/// Each is half a code and then its turned form.
+fn looking_alike() -> Vec<Vec<u8>> {
+    let mut random = Random(8);
+    let code = |_| {
+        let half = random.bands(BANDS / 2, 26);
+        half.iter().chain(half.iter().rev()).copied().collect()
+    };
+    (0..CODES).map(code).collect()
 }
 
 fn random_lengths(letters: usize) -> Vec<Vec<u8>> {

@@ -399,6 +399,7 @@ fn write_bands(parts: &Parts, order: &[usize], skips: &[usize], ribbon: &mut [u8
 enum Found {
     Given(usize),
     Turned(usize),
+    Either(usize),
     Nowhere,
 }
 
@@ -514,7 +515,11 @@ fn find_place(c: &[u8], s: &[u8]) -> Found {
     if s.len() < start {
         return Found::Nowhere;
     }
-    if agree(c, false, &s[start..start + c.len()], false, c.len()) {
+    let part = &s[start..start + c.len()];
+    if agree(c, false, part, false, c.len()) {
+        if agree(c, true, part, false, c.len()) {
+            return Found::Either(start);
+        }
         return Found::Given(start);
     }
     Found::Turned(start)
@@ -715,6 +720,7 @@ fn way_and_start(place: Found) -> (&'static [u8], usize) {
     match place {
         Found::Given(start) => (b"given", start),
         Found::Turned(start) => (b"turned", start),
+        Found::Either(start) => (b"either", start),
         Found::Nowhere => (b"", 0),
     }
 }

@@ -155,12 +155,17 @@ fn read(faces: &[Vec<u8>], order: &[usize]) -> Vec<u8> {
     row
 }
 
-/// Whether turned, and the start.
-fn place(code: &[u8], row: &[u8]) -> Option<(bool, usize)> {
+/// The way, and the start.
+fn place(code: &[u8], row: &[u8]) -> Option<(&'static str, usize)> {
     let other = turned(code);
     let mut parts = row.windows(code.len()).enumerate();
     let (start, part) = parts.find(|&(_, part)| part == code || part == other)?;
-    Some((part != code, start))
+    let way = match (part == code, part == other) {
+        (true, true) => "either",
+        (true, false) => "given",
+        _ => "turned",
+    };
+    Some((way, start))
 }
 
 /// At how many starts.
@@ -212,12 +217,10 @@ fn sheet_of(case: &Case) -> Option<Vec<u8>> {
     let row = row_of(&codes);
     let mut sheet = b"name,way,start,bands,places\r\n".to_vec();
     for (name, code) in names.into_iter().zip(codes) {
-        let (turned, start) = place(code, &row)?;
+        let (way, start) = place(code, &row)?;
         let places = how_often(code, &row[start..]);
         sheet.extend(field(name));
-        sheet.extend(if turned { &b",turned,"[..] } else { b",given," });
-        sheet.extend(start.to_string().bytes());
-        sheet.push(b',');
+        sheet.extend(format!(",{way},{start},").bytes());
         sheet.extend(&row[start..start + code.len()]);
         sheet.extend(format!(",{places}\r\n").bytes());
     }

@@ -104,8 +104,9 @@ struct ribbons_checked ribbons_check_ribbon(
     const uint8_t *ribbon, size_t ribbon_count);
 
 /* Lays out a list with names and writes its sheet to the beginning of out: the heading row name,way,start,bands,places,
-   then a row for each code in list order, each ending in CR LF. Its places are the number of starts at which it stands
-   either way, each start once. Refuses by 12, then by 13. Stack, measured: 26,728 bytes. */
+   then a row for each code in list order, each ending in CR LF. Its way is given or turned, or either for a code equal to
+   its turned form; its places are the number of starts at which it stands either way, each start once. Refuses by 12, then
+   by 13. Stack, measured: 26,728 bytes. */
 struct ribbons_sheet ribbons_write_sheet(
     const uint8_t *bands, size_t bands_count,
     const uint16_t *lengths, size_t lengths_count,

@@ -12,6 +12,7 @@ use Rattle.words.specs.Turn.{turned}
 use Rattle.words.specs.Lists.{Each}
 use Rattle.words.specs.Place.{Place}
 use Rattle.words.specs.Decides.{Decides, yes, no}
+use Rattle.words.proofs.Turning.{turning}
 use Rattle.words.proofs.Deciding.{passes, refuses, is-lt, is-le, not-lt}
 use Rattle.words.proofs.Placing.{finds-ours, place-one}
 use Rattle.lists.specs.Refusals.{whole, falseList, longRibbon, unknownColour, shortBuffer, when, firstOf}
@@ -98,7 +99,7 @@ records-one : (i : ℕ) (cs : List (List ℕ)) (row : List ℕ) (rs ts : List Pl
     → AreRecords i cs row ts → rs ≡ ts
 records-one i [] row [] [] x y = refl
 records-one i (c ∷ cs) row (r ∷ rs) (t ∷ ts) x y =
-    ap₂ (λ (u : PlaceRecord) (us : List PlaceRecord). u ∷ us) (one r t (x .0) (y .0) (place-one (x .1) (y .1)))
+    ap₂ (λ (u : PlaceRecord) (us : List PlaceRecord). u ∷ us) (one r t (x .0) (y .0) (place-one turning (x .1) (y .1)))
     (records-one (suc i) cs row rs ts (x .2) (y .2))
   where
     one : (u v : PlaceRecord) → u .code ≡ i → v .code ≡ i → u .place ≡ v .place → u ≡ v

@@ -3,7 +3,7 @@ use mathlib.Core.Path.{ap}
 use mathlib.Core.Logic.{_≢_}
 use mathlib.Core.Bool.{_&&_, not}
 use mathlib.Core.List.{List, [], _∷_}
-use Prim.Native.Nat.{ℕ}
+use Prim.Native.Nat.{ℕ, suc}
 use native.Mathlib.Omega.{arith}
 use lib.Dec.{eqb, ltb}
 use lib.IntN.{pos, negsuc}
@@ -11,7 +11,8 @@ use lib.ListN.{length, replicate}
 use Rattle.words.specs.Tests.{pick}
 use Rattle.words.specs.Texts.{text}
 use Rattle.words.specs.Turn.{turned}
-use Rattle.words.specs.Place.{given-at}
+use Rattle.words.specs.Place.{Place, given-at, turned-at, either-at, nowhere}
+use Rattle.words.proofs.Impostors.{givenForAlike, eitherForAll, eitherForElsewhere}
 use Rattle.lists.specs.Refusals.{whole, longRibbon, unknownColour, shortBuffer}
 use Rattle.lists.specs.Outcome.{outcome}
 use Rattle.lists.specs.Runs.{codesIn, over}
@@ -29,10 +30,14 @@ Call = List ℕ → List ℕ → List ℕ → List PlaceRecord → CheckOutcome
 abbrev sevens : ℕ → List PlaceRecord
 sevens n = replicate n (record { code = 7; place = given-at 7 })
 
--- the list AB, cut by some lengths, with a given ribbon and so many records
+-- a list, a ribbon and so many records; the list AB, cut by some lengths; AB alone
+caught-on : (run ls : List ℕ) (call : Call) (row : List ℕ) (n : ℕ) (look : CheckOutcome → ℕ)
+    → look (call run ls row (sevens n)) ≢ look (checkOutcome run ls row (sevens n)) → Checks call → ⊥
+caught-on run ls call row n look d h = d (ap look (checks-only call h run ls row (sevens n)))
+
 caught-by : (ls : List ℕ) (call : Call) (row : List ℕ) (n : ℕ) (look : CheckOutcome → ℕ)
     → look (call (text "AB") ls row (sevens n)) ≢ look (checkOutcome (text "AB") ls row (sevens n)) → Checks call → ⊥
-caught-by ls call row n look d h = d (ap look (checks-only call h (text "AB") ls row (sevens n)))
+caught-by = caught-on (text "AB")
 
 caught : (call : Call) (row : List ℕ) (n : ℕ) (look : CheckOutcome → ℕ)
     → look (call (text "AB") (2 ∷ []) row (sevens n)) ≢ look (checkOutcome (text "AB") (2 ∷ []) row (sevens n))
@@ -75,6 +80,35 @@ untouched run ls row records = outcome (checkOutcome run ls row records .answer)
 pub not-untouched : Checks untouched → ⊥
 unfolding turned
 not-untouched = caught untouched (text "AB") 1 firstCode (λ e. omega arith)
+
+-- Ways: given for a code that looks alike, on ABA; either for every code, on AB; either where the turned form stands elsewhere,
+-- on AB and the ribbon ABBA
+abbrev recordsBy : (ℕ → List ℕ → List ℕ → Place) → ℕ → List (List ℕ) → List ℕ → List PlaceRecord
+recordsBy find i [] row = []
+recordsBy find i (c ∷ cs) row = record { code = i; place = find 0 c row } ∷ recordsBy find (suc i) cs row
+
+abbrev placedBy : (ℕ → List ℕ → List ℕ → Place) → Call
+placedBy find run ls row records =
+    outcome (checkOutcome run ls row records .answer) (over (recordsBy find 0 (codesIn run ls) row) records)
+
+abbrev wayNumber : Place → ℕ
+wayNumber p = elim p [ given-at i ↦ 0 | turned-at i ↦ 1 | either-at i ↦ 2 | nowhere ↦ 3 ]
+
+abbrev firstWay : CheckOutcome → ℕ
+firstWay o = elim (o .after) [ [] ↦ 3 | r ∷ rs ↦ wayNumber (r .place) ]
+
+pub not-given-for-alike : Checks (placedBy givenForAlike) → ⊥
+unfolding turned
+not-given-for-alike =
+    caught-on (text "ABA") (3 ∷ []) (placedBy givenForAlike) (text "ABA") 1 firstWay (λ e. omega arith)
+
+pub not-either-for-all : Checks (placedBy eitherForAll) → ⊥
+unfolding turned
+not-either-for-all = caught (placedBy eitherForAll) (text "AB") 1 firstWay (λ e. omega arith)
+
+pub not-either-for-elsewhere : Checks (placedBy eitherForElsewhere) → ⊥
+unfolding turned
+not-either-for-elsewhere = caught (placedBy eitherForElsewhere) (text "ABBA") 1 firstWay (λ e. omega arith)
 
 -- a record touched where a code is missing; on no bands
 abbrev touchedMissing : Call

@@ -12,9 +12,11 @@ use Rattle.words.specs.Tests.{pick}
 use Rattle.words.specs.Decides.{Decides}
 use Rattle.words.specs.Stand.{StandsAt, StandsHere, begins}
 use Rattle.words.specs.Falling.{FallBack, Advances}
-use Rattle.words.specs.Place.{given-at, turned-at, nowhere, IsPlace, is-given, is-turned, is-nowhere, FirstStart}
+use Rattle.words.specs.Turn.{Turning}
+use Rattle.words.specs.Place.{given-at, turned-at, either-at, nowhere, FirstStart}
+use Rattle.words.specs.Place.{IsPlace, is-given, is-turned, is-either, is-nowhere}
 use Rattle.words.proofs.Deciding.{holds, fails}
-use Rattle.words.proofs.Placing.{start-within, is-standing-at}
+use Rattle.words.proofs.Placing.{start-within, is-standing-at, stands-as, no-tie}
 use Rattle.words.proofs.Falling.{advances-one}
 use Rattle.words.proofs.Starting.{end-within, Open, open-in, open-whole, open-to-come, open-more, open-match}
 use Rattle.words.proofs.Starting.{open-next, open-fall}
@@ -144,7 +146,7 @@ module _ {turn : List ℕ → List ℕ} {c s : List ℕ} (as-long : length (turn
                 turned-from = omega (arith, q .turned-from, g .shorter);
               }
 
--- The answer: where the search ends, the word stands as given, or else turned.
+-- The answer: where the search ends, the word stands as given, turned or both ways.
 module _ {turn : List ℕ → List ℕ} {c s : List ℕ} {k : ℕ} where
   pub place-behind : length (turn c) ≡ length c → length s < k + length c → IsPlace turn k c s nowhere
   place-behind as-long l =
@@ -162,15 +164,28 @@ module _ {turn : List ℕ → List ℕ} {c s : List ℕ} {k : ℕ} where
         })
 
     module _ (l : i ≤ length s) where
-      test : Decides (StandsAt c s i) (begins c (take (length s - i) (drop i s)))
-      test = is-standing-at c l (sym (take-all (length s - i) (drop i s) (omega (arith, length-drop i s))))
+      abbrev left : List ℕ
+      left = take (length s - i) (drop i s)
 
-      pub place-given : begins c (take (length s - i) (drop i s)) ≡ true → IsPlace turn k c s (given-at i)
-      place-given e = is-given {i = i} (f .from-on) (holds test e) (f .none-before)
+      test : (w : List ℕ) → Decides (StandsAt w s i) (begins w left)
+      test w = is-standing-at w l (sym (take-all (length s - i) (drop i s) (omega (arith, length-drop i s))))
 
-      pub place-turned : begins c (take (length s - i) (drop i s)) ≡ false → IsPlace turn k c s (turned-at i)
-      place-turned e = is-turned {i = i} (f .from-on) (fails test e) (other (f .stands l)) (f .none-before)
+      module _ (e : begins c left ≡ true) where
+        pub place-either : Turning turn → begins (turn c) left ≡ true → IsPlace turn k c s (either-at i)
+        place-either t g =
+            let h = holds (test c) e in
+            is-either {i = i} (f .from-on) (no-tie t c s i h (holds (test (turn c)) g)) h (f .none-before)
+
+        pub place-given : begins (turn c) left ≡ false → IsPlace turn k c s (given-at i)
+        place-given g =
+            let h = holds (test c) e in
+            is-given {i = i} (f .from-on) (λ a. fails (test (turn c)) g (stands-as a h)) h (f .none-before)
+
+      pub place-turned : begins c left ≡ false → IsPlace turn k c s (turned-at i)
+      place-turned e =
+          let h = other (f .stands l) in
+          is-turned {i = i} (f .from-on) (λ a. fails (test c) e (stands-as (sym a) h)) h (f .none-before)
         where
           other : StandsHere turn c s i → StandsAt (turn c) s i
-          other (inl x) = absurd (fails test e x)
+          other (inl x) = absurd (fails (test c) e x)
           other (inr x) = x

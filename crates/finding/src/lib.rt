@@ -3,9 +3,10 @@ mod starts;
 
 pub use starts::find_place;
 
-// As given at a start, turned at a start, or no place.
+// As given, turned or either way at a start, or no place.
 pub enum Found {
     Given(usize),
     Turned(usize),
+    Either(usize),
     Nowhere,
 }

@@ -63,7 +63,8 @@ fn first_start(c: &[u8], falls: &[usize], turned_falls: &[usize], s: &[u8], from
     }
 }
 
-// The smallest place of c on s from a first start on; there is none where too few bands are left.
+// The smallest place of c on s from a first start on; there is none where too few bands are left. Where both ways stand at one
+// start, c looks alike from both ends.
 pub fn find_place(c: &[u8], s: &[u8], from: usize) -> Found
     requires { ⌜ (0 < length (now c)) × (length (now c) ≤ 64) ⌝ }
     ensures { λ r. ⌜ placeIn r ≡ placeOf turned from (now (c .entry)) (now (s .entry)) ⌝ }
@@ -81,6 +82,9 @@ pub fn find_place(c: &[u8], s: &[u8], from: usize) -> Found
         return Found::Nowhere;
     }
     if begins_way(c, false, &s[start..]) {
+        if begins_way(c, true, &s[start..]) {
+            return Found::Either(start);
+        }
         return Found::Given(start);
     }
     Found::Turned(start)

@@ -57,10 +57,10 @@ pub fn widened(records: [Place; MOST_CODES]) -> [Place; MOST_RECORDS] {
     places
 }
 
-// A record as numbers: its code, 0 for a way as given or 1 for a turned one, its start.
+// A record as numbers: its code, 0 for a way as given, 1 for a turned one or 2 for either, its start.
 struct Numbers {
     pub code: u64,
-    pub turned: u64,
+    pub way: u64,
     pub start: u64,
 }
 
@@ -75,12 +75,17 @@ fn record_at(places: [Place; MOST_RECORDS], i: usize) -> Numbers {
     match way {
         Way::Given(n) => Numbers {
             code,
-            turned: 0,
+            way: 0,
             start: n as u64,
         },
         Way::Turned(n) => Numbers {
             code,
-            turned: 1,
+            way: 1,
+            start: n as u64,
+        },
+        Way::Either(n) => Numbers {
+            code,
+            way: 2,
             start: n as u64,
         },
     }
@@ -88,10 +93,13 @@ fn record_at(places: [Place; MOST_RECORDS], i: usize) -> Numbers {
 
 // A record is said.
 fn say_record(t: Tally, p: Numbers) -> Tally {
-    if p.turned == 0 {
+    if p.way == 0 {
         return say_form(t, b"# given #", p.code, p.start, 0);
     }
-    say_form(t, b"# turned #", p.code, p.start, 0)
+    if p.way == 1 {
+        return say_form(t, b"# turned #", p.code, p.start, 0);
+    }
+    say_form(t, b"# either #", p.code, p.start, 0)
 }
 
 // The first records, so many, with a semicolon between.
@@ -109,7 +117,7 @@ fn say_records(t: Tally, places: [Place; MOST_RECORDS], n: usize) -> Tally {
 // Whether two records hold the same.
 fn same(a: Numbers, b: Numbers) -> bool {
     if a.code == b.code {
-        if a.turned == b.turned {
+        if a.way == b.way {
             return a.start == b.start;
         }
     }
@@ -120,7 +128,7 @@ fn same(a: Numbers, b: Numbers) -> bool {
 fn pass(r: Rest, p: Numbers, before: Numbers) -> Rest {
     let t = r.tally;
     Rest {
-        tally: feed(feed(feed(t, p.code), p.turned), p.start),
+        tally: feed(feed(feed(t, p.code), p.way), p.start),
         kept: plus(r.kept, one_if(same(p, before))),
     }
 }

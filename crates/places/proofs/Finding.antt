@@ -12,7 +12,7 @@ use lib.Seq.{take-suc, take-suc-set, take-all, length-take-le, getD-take, drop-d
 use Rattle.words.specs.Turn.{turned}
 use Rattle.words.specs.Lists.{Each}
 use Rattle.words.specs.Stand.{StandsSomeWay}
-use Rattle.words.specs.Place.{Place, IsPlace, is-given, is-turned, is-nowhere, placeOf, found}
+use Rattle.words.specs.Place.{Place, IsPlace, is-given, is-turned, is-either, is-nowhere, placeOf, found}
 use Rattle.words.proofs.Deciding.{holds, fails}
 use Rattle.words.proofs.Lists.{each-in}
 use Rattle.words.proofs.Standing.{stands-length}
@@ -28,7 +28,7 @@ use Rattle.greedy.proofs.Keeping.{code-in}
 use Rattle.parts.proofs.Cutting.{code-at, total-part, fit-size, fit-small}
 use Rattle.places.specs.declared.Place as declared
 use Rattle.places.specs.declared.Way.{Way}
-use Rattle.places.specs.declared.Way.the-variants.{Given, Turned}
+use Rattle.places.specs.declared.Way.the-variants.{Given, Turned, Either}
 use Rattle.places.specs.Starts.{StartsWithin}
 use Rattle.checking.specs.Check.{none-missing, missing, all-held, lowest, missingOn}
 use Rattle.checking.specs.Answers.{PlaceRecord, recordsFrom}
@@ -41,8 +41,9 @@ pub starts-within : (c row : List ℕ) {n : ℕ} → length row ≤ n → found 
 starts-within c row {n} l = of (finds-ours turned 0 c row)
   where
     of : {p : Place} → IsPlace turned 0 c row p → found p ≡ true → StartsWithin n p
-    of (is-given z h o) e = omega (arith, l, h .start, stands-length (h .stands))
-    of (is-turned z x h o) e = omega (arith, l, h .start, stands-length (h .stands))
+    of (is-given z d h o) e = omega (arith, l, h .start, stands-length (h .stands))
+    of (is-turned z d h o) e = omega (arith, l, h .start, stands-length (h .stands))
+    of (is-either z a h o) e = omega (arith, l, h .start, stands-length (h .stands))
     of (is-nowhere x) e = absurd (true≢false (sym e))
 
 -- one code more
@@ -146,6 +147,7 @@ module _ {run ls row : List ℕ} {all : List declared.Place} {at i : ℕ} (f : F
 way-found : (w : Way) → found (wayAt w) ≡ true
 way-found (Given i) = refl
 way-found (Turned i) = refl
+way-found (Either i) = refl
 
 each-found : (row : List ℕ) (i : ℕ) (cs : List (List ℕ)) (ps : List declared.Place) → recordsOf ps ≡ recordsFrom i cs row
     → Each (λ (c : List ℕ). StandsSomeWay turned c row) cs

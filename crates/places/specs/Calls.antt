@@ -5,19 +5,20 @@ use mathlib.Core.List.{List, map}
 use Prim.Native.Nat.{ℕ, _≤_, _<_}
 use lib.ListN.{length, take, drop, replicate}
 use Rattle.words.specs.Turn.{turned}
-use Rattle.words.specs.Place.{Place, given-at, turned-at, placeOf, found}
+use Rattle.words.specs.Place.{Place, given-at, turned-at, either-at, placeOf, found}
 use Rattle.lists.specs.Runs.{codesIn}
 use Rattle.greedy.specs.Dropping.{codeAt}
 use Rattle.checking.specs.Answers.{PlaceRecord}
 use Rattle.checking.specs.Answers.{recordsFrom}
 use Rattle.places.specs.declared.Way.{Way}
-use Rattle.places.specs.declared.Way.the-variants.{Given, Turned}
+use Rattle.places.specs.declared.Way.the-variants.{Given, Turned, Either}
 use Rattle.places.specs.declared.Place as declared
 
 -- A lent record: the code's number, and its way with the start.
 abbrev pub wayAt : Way → Place
 wayAt (Given i) = given-at i
 wayAt (Turned i) = turned-at i
+wayAt (Either i) = either-at i
 
 abbrev pub recordOf : declared.Place → PlaceRecord
 recordOf p = record { code = p .code; place = wayAt (p .way) }

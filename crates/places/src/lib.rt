@@ -14,10 +14,11 @@ use records::is_nowhere;
 use records::place_of;
 use records::record_of;
 
-// A way of a code, with the start at which it stands.
+// A way of a code, with the start at which it stands: either for a code equal to its turned form.
 pub enum Way {
     Given(u32),
     Turned(u32),
+    Either(u32),
 }
 
 // A place record: the code's number, and its way with the start.

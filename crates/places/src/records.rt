@@ -36,6 +36,7 @@ pub fn is_nowhere(place: Found) -> bool
     match place {
         Found::Given(_) => false,
         Found::Turned(_) => false,
+        Found::Either(_) => false,
         Found::Nowhere => true,
     }
 }
@@ -48,6 +49,7 @@ fn way_of(place: Found) -> Way
     match place {
         Found::Given(start) => Way::Given(start as u32),
         Found::Turned(start) => Way::Turned(start as u32),
+        Found::Either(start) => Way::Either(start as u32),
         Found::Nowhere => Way::Given(0),
     }
 }

@@ -6,7 +6,7 @@ use Rattle.words.proofs.Turning.{turning, turns-ours, turns-only}
 use Rattle.words.proofs.Standing.{is-some-way}
 use Rattle.words.proofs.Overlaps.{overlaps-ours, overlaps-only}
 use Rattle.words.proofs.FallBacks.{holds-ours, holds-only, falls-back-ours, falls-back-only}
-use Rattle.words.proofs.Placing.{finds-ours, finds-only}
+use Rattle.words.proofs.Placing.{no-tie, finds-ours, finds-only}
 use Rattle.words.proofs.Counting.{counts-ours, counts-only}
 use Rattle.lists.specs.Outcome.{outcome}
 use Rattle.lists.specs.Runs.{codesIn}
@@ -71,7 +71,7 @@ no-freedom =
       overlaps = overlaps-only;
       passes = holds-only;
       fall-backs = falls-back-only;
-      places = finds-only;
+      places = finds-only turning;
       counts = counts-only;
       codes = codes-only;
       names = names-only;
@@ -114,6 +114,7 @@ all-demands =
       all-stand = λ cs. each-laid turned turning cs .all-stand;
       adds-up = λ cs. each-laid turned turning cs .adds-up;
       passes-exactly = passes-exactly;
+      no-tie = λ turn t. no-tie t;
       sheet-is-true = sheet-is-true;
       reads-back = λ names codes ribbon sheet x printed banded. reads-back x printed banded;
       at-most-twice = demand-3;

@@ -11,7 +11,7 @@ use Rattle.words.specs.Turn.{turned, Turning, Turns}
 use Rattle.words.specs.Stand.{StandsSomeWay}
 use Rattle.words.specs.Overlap.{Overlaps, overlap}
 use Rattle.words.specs.Falling.{Holds, FallsBack, heldAfter, fallBack}
-use Rattle.words.specs.Place.{Place, Finds, placeOf}
+use Rattle.words.specs.Place.{Place, NoTie, Finds, placeOf}
 use Rattle.words.specs.Count.{Counts, countOf}
 use Rattle.lists.specs.Runs.{codesIn, total, lengths, over}
 use Rattle.lists.specs.Rules.{Band, Printed, ChecksCodes, ChecksNames}
@@ -182,11 +182,13 @@ pub record Demands : Type 0 where
   pub hands-on : Hands-on
   -- 2. The ribbon is the one of Greedy-R2 with our tie rule: `ribbons` above. Every listed code stands on it one way or the
   -- other; its bands and the bands saved add up to those of the kept codes. A supplied ribbon passes exactly when every
-  -- code stands on it, and each place on the sheet is true: `checking` and `sheets` above; read back, a sheet gives them.
+  -- code stands on it, and each place on the sheet is true: `checking` and `sheets` above; read back, a sheet gives them. Where
+  -- both ways stand at one start, the code is equal to its turned form, so that no rule has to choose between the ways.
   pub all-stand : (cs : List (List ℕ)) → AllStand turned cs (ribbonFor turned cs)
   pub adds-up : (cs : List (List ℕ))
       → length (ribbonFor turned cs) + savedBy turned cs ≡ total (lengths (kept turned cs))
   pub passes-exactly : PassesExactly
+  pub no-tie : (turn : List ℕ → List ℕ) → Turning turn → NoTie turn
   pub sheet-is-true : SheetIsTrue
   pub reads-back : (names codes : List (List ℕ)) (ribbon sheet : List ℕ) → SheetFor names codes ribbon sheet
       → Each (Each Printed) names → Each (Each Band) codes → ReadsBack names codes ribbon sheet

@@ -14,7 +14,7 @@ use Rattle.greedy.specs.Dropping.{codeAt}
 use Rattle.lists.proofs.Runs.{part-to}
 use Rattle.parts.proofs.Cutting.{total-part, code-at}
 use Rattle.places.specs.declared.Way.{Way}
-use Rattle.places.specs.declared.Way.the-variants.{Given, Turned}
+use Rattle.places.specs.declared.Way.the-variants.{Given, Turned, Either}
 use Rattle.sheets.specs.Decimal.{decimal}
 use Rattle.places.specs.Calls.{wayAt}
 use Rattle.sheets.specs.Sheet.{rowText, placeFields, bandsAt}
@@ -41,6 +41,7 @@ module _ (ribbon : List ℕ) (n start places : ℕ) where
 way-few : (w : Way) → length (wayText w) ≤ 8
 way-few (Given i) = omega arith
 way-few (Turned i) = omega arith
+way-few (Either i) = omega arith
 
 module _ (name : List ℕ) (n : ℕ) (s : Shown) (ribbon : List ℕ) {start : ℕ} (e : start ≡ startOf (s .way)) where
   pub row-parts : placedRow name n s ribbon
@@ -52,6 +53,7 @@ module _ (name : List ℕ) (n : ℕ) (s : Shown) (ribbon : List ℕ) {start : �
           ++ (wayText w ++ (decimal (startOf w) ++ ((comma ∷ []) ++ (bandsAt ribbon n (startOf w) ++ placesText (s .places)))))
       by (Given i) = refl
       by (Turned i) = refl
+      by (Either i) = refl
 
   module _ (on : startOf (s .way) + n ≤ length ribbon) where
     -- its length: two commas and CR LF besides name, way, start, bands and places

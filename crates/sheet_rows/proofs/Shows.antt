@@ -9,7 +9,7 @@ use native.Mathlib.Decide.{ℕ-discrete}
 use lib.ListN.{length, take, drop, getD, set, length-set, length-drop, List·getD-map}
 use lib.Seq.{getD-set-same, getD-set-other}
 use Rattle.words.specs.Turn.{turned}
-use Rattle.words.specs.Place.{IsPlace, is-given, is-turned, placeOf}
+use Rattle.words.specs.Place.{IsPlace, is-given, is-turned, is-either, placeOf}
 use Rattle.words.specs.Count.{countOf}
 use Rattle.words.proofs.Turning.{turning}
 use Rattle.words.proofs.Standing.{stands-length}
@@ -21,7 +21,7 @@ use Rattle.lists.proofs.Runs.{total-more}
 use Rattle.greedy.specs.Dropping.{codeAt}
 use Rattle.places.specs.Calls.{wayAt}
 use Rattle.places.specs.declared.Way.{Way}
-use Rattle.places.specs.declared.Way.the-variants.{Given, Turned}
+use Rattle.places.specs.declared.Way.the-variants.{Given, Turned, Either}
 use Rattle.places.proofs.Finding.{next-in, next-is}
 use Rattle.sheet_rows.specs.Shows.{unset, nthShown, ShowsCode, ShowsCodes}
 use Rattle.sheet_rows.specs.Placed.{startOf}
@@ -33,13 +33,15 @@ module _ (c ribbon : List ℕ) where
   count-few h k = omega (arith, count-most (turning .as-long c) h (counts-ours turned c (drop k ribbon)), length-drop k ribbon)
 
   lies-on : (w : Way) → IsPlace turned 0 c ribbon (wayAt w) → startOf w + length c ≤ length ribbon
-  lies-on (Given i) (is-given l h n) = omega (arith, h .start, stands-length (h .stands))
-  lies-on (Turned i) (is-turned l x h n) = omega (arith, h .start, stands-length (h .stands), turning .as-long c)
+  lies-on (Given i) (is-given l d h n) = omega (arith, h .start, stands-length (h .stands))
+  lies-on (Turned i) (is-turned l d h n) = omega (arith, h .start, stands-length (h .stands), turning .as-long c)
+  lies-on (Either i) (is-either l a h n) = omega (arith, h .start, stands-length (h .stands))
 
   all-behind : (w : Way) → IsPlace turned 0 c ribbon (wayAt w)
       → countOf turned c ribbon ≡ countOf turned c (drop (startOf w) ribbon)
-  all-behind (Given i) (is-given l h n) = count-behind turned c ribbon i (start-within h) (λ j m. n j (omega arith) m)
-  all-behind (Turned i) (is-turned l x h n) = count-behind turned c ribbon i (start-within h) (λ j m. n j (omega arith) m)
+  all-behind (Given i) (is-given l d h n) = count-behind turned c ribbon i (start-within h) (λ j m. n j (omega arith) m)
+  all-behind (Turned i) (is-turned l d h n) = count-behind turned c ribbon i (start-within h) (λ j m. n j (omega arith) m)
+  all-behind (Either i) (is-either l a h n) = count-behind turned c ribbon i (start-within h) (λ j m. n j (omega arith) m)
 
   module _ (w : Way) (e : wayAt w ≡ placeOf turned 0 c ribbon) where
     is-place : IsPlace turned 0 c ribbon (wayAt w)

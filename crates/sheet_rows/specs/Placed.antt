@@ -10,7 +10,7 @@ use Rattle.grammar.specs.Files.{comma, lineBreak}
 use Rattle.grammar.specs.Quoting.{fieldText}
 use Rattle.places.specs.Calls.{wayAt}
 use Rattle.places.specs.declared.Way.{Way}
-use Rattle.places.specs.declared.Way.the-variants.{Given, Turned}
+use Rattle.places.specs.declared.Way.the-variants.{Given, Turned, Either}
 use Rattle.sheets.specs.Decimal.{decimal}
 use Rattle.sheets.specs.Sheet.{rowText, sheetHeading, placeFields}
 use Rattle.sheet_rows.specs.Shows.{nthShown}
@@ -33,6 +33,7 @@ placedSheet names ls ss ribbon = rowText sheetHeading ++ placedRows names ls ss 
 abbrev pub wayText : Way → List ℕ
 wayText (Given i) = text ",given,"
 wayText (Turned i) = text ",turned,"
+wayText (Either i) = text ",either,"
 
 -- a number of places between its comma and the end of the row
 abbrev pub placesText : ℕ → List ℕ
@@ -42,6 +43,7 @@ placesText k = comma ∷ (decimal k ++ lineBreak)
 abbrev pub startOf : Way → ℕ
 startOf (Given i) = i
 startOf (Turned i) = i
+startOf (Either i) = i
 
 -- the row of code i
 abbrev pub nthRow : (names sizes ls : List ℕ) → List Shown → List ℕ → ℕ → List ℕ

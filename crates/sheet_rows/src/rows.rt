@@ -27,6 +27,7 @@ pub fn start_of(way: Way) -> u32
     match way {
         Way::Given(i) => i,
         Way::Turned(i) => i,
+        Way::Either(i) => i,
     }
 }
 
@@ -38,6 +39,7 @@ fn put_way(way: Way, out: &mut [u8], at: usize) -> usize
     match way {
         Way::Given(_) => matching::put_word(b",given,", out, at),
         Way::Turned(_) => matching::put_word(b",turned,", out, at),
+        Way::Either(_) => matching::put_word(b",either,", out, at),
     }
 }
 

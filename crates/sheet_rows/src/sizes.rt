@@ -18,6 +18,7 @@ fn way_size(way: Way) -> usize
     match way {
         Way::Given(_) => 7,
         Way::Turned(_) => 8,
+        Way::Either(_) => 8,
     }
 }
 

@@ -1,5 +1,5 @@
 -- Document 01's worked example: the sheet of Pump, Fan and Lamp, byte for byte. Ours is this text, and so the claim
--- holds of it, on the ribbon that the example gives.
+-- holds of it, on the ribbon that the example gives. And a sheet with codes that look alike from both ends.
 use mathlib.Core.Path.{_≡_, refl, subst}
 use mathlib.Core.Bool.{true}
 use mathlib.Core.List.{List, [], _∷_}
@@ -38,3 +38,20 @@ example-meets =
     let e = same-eq (ribbonFor turned codes) (text "CAAABBB") to-the-band in
     subst (λ (r : List ℕ). SheetFor names codes r sheet) e
     (subst (SheetFor names codes (ribbonFor turned codes)) worked-example (sheet-ours names codes refl (omega arith)))
+
+-- ABA and ACA look alike; BA stands turned before it stands as given.
+abbrev alikeNames : List (List ℕ)
+alikeNames = text "P" ∷ text "Q" ∷ text "R" ∷ []
+
+abbrev alikeCodes : List (List ℕ)
+alikeCodes = text "ABA" ∷ text "ACA" ∷ text "BA" ∷ []
+
+abbrev alikeSheet : List ℕ
+alikeSheet = text "name,way,start,bands,places\r\nP,either,0,ABA,1\r\nQ,either,2,ACA,1\r\nR,turned,0,AB,2\r\n"
+
+alike-to-the-byte : same (sheetText alikeNames alikeCodes) alikeSheet ≡ true
+unfolding turned
+alike-to-the-byte = refl
+
+pub alike-example : sheetText alikeNames alikeCodes ≡ alikeSheet
+alike-example = same-eq (sheetText alikeNames alikeCodes) alikeSheet alike-to-the-byte

@@ -10,9 +10,10 @@ use Rattle.words.specs.Tests.{pick, same}
 use Rattle.words.specs.Turn.{turned}
 use Rattle.words.specs.Texts.{text}
 use Rattle.words.specs.Stand.{begins}
-use Rattle.words.specs.Place.{Place, given-at, turned-at, nowhere, placeOf}
+use Rattle.words.specs.Place.{Place, given-at, turned-at, either-at, nowhere, placeOf}
 use Rattle.words.specs.Count.{countOf}
 use Rattle.words.proofs.Tests.{differ}
+use Rattle.words.proofs.Impostors.{givenForAlike, eitherForAll, eitherForElsewhere}
 use Rattle.lists.specs.Refusals.{whole, falseList, shortBuffer, when, firstOf}
 use Rattle.lists.specs.Outcome.{outcome}
 use Rattle.lists.specs.Runs.{codesIn, flat, lengths, over}
@@ -37,6 +38,7 @@ module _ (order : List (List ℕ) → List Entry → List Entry) (field : List �
   abbrev fieldsBy : List (List ℕ) → List ℕ → List ℕ → Place → List (List ℕ)
   fieldsBy codes code ribbon (given-at i) = text "given" ∷ start i ∷ bands code ribbon i ∷ places codes code ribbon
   fieldsBy codes code ribbon (turned-at i) = text "turned" ∷ start i ∷ bands code ribbon i ∷ places codes code ribbon
+  fieldsBy codes code ribbon (either-at i) = text "either" ∷ start i ∷ bands code ribbon i ∷ places codes code ribbon
   fieldsBy codes code ribbon nowhere = []
 
   abbrev rowsBy : List (List ℕ) → List ℕ → List Entry → List ℕ
@@ -87,6 +89,7 @@ right-sheet-is-ours names codes = ap (λ (r : List ℕ). rowText sheetHeading ++
         ≡ placeFields ribbon (length c) p (countOf turned c ribbon)
     fields c (given-at i) = refl
     fields c (turned-at i) = refl
+    fields c (either-at i) = refl
     fields c nowhere = refl
 
     rows : (ns cs : List (List ℕ))
@@ -147,6 +150,7 @@ keptFirst cs es = keptOnly cs es ++ droppedOnly cs es
 abbrev startOf : Place → ℕ
 startOf (given-at i) = i
 startOf (turned-at i) = i
+startOf (either-at i) = i
 startOf nowhere = 0
 
 abbrev insert : List ℕ → Entry → List Entry → List Entry
@@ -188,13 +192,26 @@ pub not-never-quoted : Sheets (namesBy (λ c. c)) → ⊥
 unfolding turned zip zipWith
 not-never-quoted = caught (namesBy (λ c. c)) (text "," ∷ []) (text "AB" ∷ []) room refl
 
--- Places: always `given,0`, on AB and CD.
-abbrev alwaysFirst : Call
-alwaysFirst = callBy checked (writeBy listed fieldText (λ c s. given-at 0) decimal standing howOften)
+-- Places: always `given,0`, on AB and CD; given for a code that looks alike, on ABA; either for every code, on AB; either
+-- where the turned form stands elsewhere, on AB and ABBA.
+abbrev placedBy : (List ℕ → List ℕ → Place) → Call
+placedBy place = callBy checked (writeBy listed fieldText place decimal standing howOften)
 
-pub not-always-first : Sheets alwaysFirst → ⊥
+pub not-always-first : Sheets (placedBy (λ c s. given-at 0)) → ⊥
 unfolding turned zip zipWith
-not-always-first = caught alwaysFirst two apart room refl
+not-always-first = caught (placedBy (λ c s. given-at 0)) two apart room refl
+
+pub not-given-for-alike : Sheets (placedBy (givenForAlike 0)) → ⊥
+unfolding turned zip zipWith
+not-given-for-alike = caught (placedBy (givenForAlike 0)) (text "P" ∷ []) (text "ABA" ∷ []) room refl
+
+pub not-either-for-all : Sheets (placedBy (eitherForAll 0)) → ⊥
+unfolding turned zip zipWith
+not-either-for-all = caught (placedBy (eitherForAll 0)) (text "P" ∷ []) (text "AB" ∷ []) room refl
+
+pub not-either-for-elsewhere : Sheets (placedBy (eitherForElsewhere 0)) → ⊥
+unfolding turned zip zipWith
+not-either-for-elsewhere = caught (placedBy (eitherForElsewhere 0)) two (text "AB" ∷ text "ABBA" ∷ []) room refl
 
 -- Starts: counted from 1; with a leading zero; digits reversed, on a code that starts at 10.
 abbrev startsBy : (ℕ → List ℕ) → Call

@@ -13,8 +13,8 @@ use Rattle.grammar.specs.Grammar.{Text, Field, unquoted, one, more, line, RowAt
 use Rattle.grammar.proofs.Scan.{scan-row}
 use Rattle.grammar.proofs.Quoting.{written-field}
 use Rattle.sheets.specs.Decimal.{Digits, one-digit, one-more}
-use Rattle.sheets.specs.Sheet.{fiveFields, PlaceFor, as-given, as-turned, PlacesFor, so-often, row-for, RowsFor}
-use Rattle.sheets.specs.Sheet.{none, next, SheetFor, heading-first}
+use Rattle.sheets.specs.Sheet.{fiveFields, PlaceFor, as-given, as-turned, as-either, PlacesFor, so-often, row-for}
+use Rattle.sheets.specs.Sheet.{RowsFor, none, next, SheetFor, heading-first}
 use Rattle.sheets.specs.ReadBack.{ReadsAs, at-end, one-row, no-codes, one-code, FieldsFor, ReadsBack}
 
 -- what the fields after the name are made of
@@ -29,6 +29,7 @@ place-text : {code ribbon way start bands : List ℕ} → PlaceFor code ribbon w
     → Each Text way × Each Text start × Each Text bands
 place-text {code} (as-given p d) h = (omega arith, digits-text d, bands-text code h)
 place-text {code} (as-turned p d) h = (omega arith, digits-text d, turned-each Text code (bands-text code h))
+place-text {code} (as-either p d) h = (omega arith, digits-text d, bands-text code h)
 
 places-text : {code ribbon places : List ℕ} → PlacesFor code ribbon places → Each Text places
 places-text (so-often q d) = digits-text d

@@ -9,7 +9,7 @@ use lib.ListN.{length, length-append}
 use borrow.Author.Tests.{le-ltb}
 use Rattle.words.specs.Lists.{Each}
 use Rattle.words.specs.Turn.{turned}
-use Rattle.words.specs.Place.{is-given, is-turned}
+use Rattle.words.specs.Place.{is-given, is-turned, is-either}
 use Rattle.words.proofs.Turning.{turning}
 use Rattle.words.proofs.Standing.{stands-length}
 use Rattle.words.proofs.Counting.{count-most}
@@ -25,8 +25,8 @@ use Rattle.greedy.specs.Layout.{savedBy}
 use Rattle.lists.proofs.Runs.{codes-count}
 use Rattle.greedy.proofs.Room.{ribbon-at-most}
 use Rattle.sheets.specs.Decimal.{Digits, one-digit, one-more}
-use Rattle.sheets.specs.Sheet.{PlaceFor, as-given, as-turned, PlacesFor, so-often, RowFor, row-for, RowsFor}
-use Rattle.sheets.specs.Sheet.{none, next, SheetFor, heading-first}
+use Rattle.sheets.specs.Sheet.{PlaceFor, as-given, as-turned, as-either, PlacesFor, so-often, RowFor, row-for}
+use Rattle.sheets.specs.Sheet.{RowsFor, none, next, SheetFor, heading-first}
 use Rattle.sheets.specs.Answers.{written, sheetFor, sheetOutcome}
 use Rattle.sheets.proofs.Answers.{shows-ours}
 
@@ -54,11 +54,13 @@ digits-long (one-more {d} {t} p h l) (suc n) b =
 -- way, start and bands: a code of one band or more starts before the ribbon ends
 place-long : {code ribbon way start bands : List ℕ} → PlaceFor code ribbon way start bands → CodeRule code
     → length ribbon ≤ 8192 → (length way ≤ 6) × (length start ≤ 4) × (length bands ≤ 64)
-place-long (as-given (is-given {i} l h n) d) r m =
+place-long (as-given (is-given {i} l x h n) d) r m =
     (omega arith, digits-long d 3 (omega (arith, h .start, stands-length (h .stands), r .0)), r .1)
 place-long {code} (as-turned (is-turned {i} l x h n) d) r m =
     let same = turning .as-long code in
     (omega arith, digits-long d 3 (omega (arith, h .start, stands-length (h .stands), r .0)), omega (arith, r .1))
+place-long (as-either (is-either {i} l a h n) d) r m =
+    (omega arith, digits-long d 3 (omega (arith, h .start, stands-length (h .stands), r .0)), r .1)
 
 -- the number of places: at most as many as the ribbon has bands
 places-long : {code ribbon places : List ℕ} → PlacesFor code ribbon places → CodeRule code → length ribbon ≤ 8192

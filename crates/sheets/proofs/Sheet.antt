@@ -11,7 +11,7 @@ use lib.Seq.{take-at, drop-at}
 use Rattle.words.specs.Lists.{Each}
 use Rattle.words.specs.Turn.{turned}
 use Rattle.words.specs.Stand.{StandsAt, StandsSomeWay}
-use Rattle.words.specs.Place.{Place, IsPlace, is-given, is-turned, is-nowhere, found}
+use Rattle.words.specs.Place.{Place, IsPlace, is-given, is-turned, is-either, is-nowhere, found}
 use Rattle.words.specs.Count.{IsCount, countOf}
 use Rattle.words.proofs.Turning.{turning}
 use Rattle.words.proofs.Deciding.{passes}
@@ -24,7 +24,7 @@ use Rattle.greedy.specs.Rules.{AllStand}
 use Rattle.greedy.specs.Layout.{ribbonFor}
 use Rattle.greedy.proofs.Claims.{each-laid}
 use Rattle.sheets.specs.Decimal.{decimal}
-use Rattle.sheets.specs.Sheet.{as-given, as-turned, PlacesFor, so-often, RowFor, row-for, RowsFor, none, next}
+use Rattle.sheets.specs.Sheet.{as-given, as-turned, as-either, PlacesFor, so-often, RowFor, row-for, RowsFor, none, next}
 use Rattle.sheets.specs.Sheet.{SheetFor, heading-first, rowText, sheetHeading, bandsAt, placeFields, codeRow}
 use Rattle.sheets.specs.Sheet.{codeRows, sheetText}
 use Rattle.sheets.proofs.Decimal.{digits-ours, digits-one}
@@ -50,28 +50,34 @@ module _ (name code ribbon : List ℕ) where
     where
       by : {q : Place} → IsPlace turned 0 code ribbon q → found q ≡ true
           → RowFor name code ribbon (rowBy q (countOf turned code ribbon))
-      by (is-given {i} l h n) e =
-          rw (bands-stand refl h) (row-for (writes-ours name p) (as-given (is-given l h n) (digits-ours i)) places-ours)
-      by (is-turned {i} l x h n) e =
+      by (is-given {i} l d h n) e =
+          rw (bands-stand refl h) (row-for (writes-ours name p) (as-given (is-given l d h n) (digits-ours i)) places-ours)
+      by (is-turned {i} l d h n) e =
           rw (bands-stand (turning .as-long code) h)
-          (row-for (writes-ours name p) (as-turned (is-turned l x h n) (digits-ours i)) places-ours)
+          (row-for (writes-ours name p) (as-turned (is-turned l d h n) (digits-ours i)) places-ours)
+      by (is-either {i} l a h n) e =
+          rw (bands-stand refl h) (row-for (writes-ours name p) (as-either (is-either l a h n) (digits-ours i)) places-ours)
       by (is-nowhere n) e = absurd (true≢false (sym e))
 
   -- what meets the claims on a place and on a count is ours, so this is our row
   row-by : {p : Place} {k : ℕ} → IsPlace turned 0 code ribbon p → IsCount turned code ribbon k
       → codeRow name code ribbon ≡ rowBy p k
-  row-by p q = ap₂ (λ (a : Place) (b : ℕ). rowBy a b) (place-one (finds-ours turned 0 code ribbon) p) (sym (count-is q))
+  row-by p q = ap₂ (λ (a : Place) (b : ℕ). rowBy a b) (place-one turning (finds-ours turned 0 code ribbon) p) (sym (count-is q))
 
   row-only : {t : List ℕ} → RowFor name code ribbon t → t ≡ codeRow name code ribbon
-  row-only (row-for w (as-given {i} (is-given l h n) d) (so-often {n = k} q e)) =
+  row-only (row-for w (as-given {i} (is-given l x h n) d) (so-often {n = k} q e)) =
       sym
-      (row-by (is-given l h n) q
+      (row-by (is-given l x h n) q
       ∙ rw (written-only w, bands-stand refl h, digits-one (digits-ours i) d, digits-one (digits-ours k) e))
   row-only (row-for w (as-turned {i} (is-turned l x h n) d) (so-often {n = k} q e)) =
       let same = bands-stand (turning .as-long code) h in
       sym
       (row-by (is-turned l x h n) q
       ∙ rw (written-only w, same, digits-one (digits-ours i) d, digits-one (digits-ours k) e))
+  row-only (row-for w (as-either {i} (is-either l a h n) d) (so-often {n = k} q e)) =
+      sym
+      (row-by (is-either l a h n) q
+      ∙ rw (written-only w, bands-stand refl h, digits-one (digits-ours i) d, digits-one (digits-ours k) e))
 
 -- row after row
 rows-ours : (names codes : List (List ℕ)) (ribbon : List ℕ) → length names ≡ length codes → Each (Each Printed) names

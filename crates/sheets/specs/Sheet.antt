@@ -5,7 +5,7 @@ use Prim.Native.Nat.{ℕ}
 use lib.ListN.{length, take, drop}
 use Rattle.words.specs.Texts.{text}
 use Rattle.words.specs.Turn.{turned}
-use Rattle.words.specs.Place.{Place, given-at, turned-at, nowhere, IsPlace, placeOf}
+use Rattle.words.specs.Place.{Place, given-at, turned-at, either-at, nowhere, IsPlace, placeOf}
 use Rattle.words.specs.Count.{IsCount, countOf}
 use Rattle.grammar.specs.Files.{comma, lineBreak}
 use Rattle.grammar.specs.Quoting.{Written, fieldText}
@@ -18,6 +18,8 @@ pub data PlaceFor (code ribbon : List ℕ) : (way start bands : List ℕ) → Ty
       → PlaceFor code ribbon (text "given") start code
   as-turned : {i : ℕ} {start : List ℕ} → IsPlace turned 0 code ribbon (turned-at i) → Digits i start
       → PlaceFor code ribbon (text "turned") start (turned code)
+  as-either : {i : ℕ} {start : List ℕ} → IsPlace turned 0 code ribbon (either-at i) → Digits i start
+      → PlaceFor code ribbon (text "either") start code
 
 -- how often a code passes the head: the number of starts at which it stands either way, each start once
 pub data PlacesFor (code ribbon : List ℕ) : List ℕ → Type 0 where
@@ -61,6 +63,7 @@ bandsAt ribbon n start = take n (drop start ribbon)
 abbrev pub placeFields : List ℕ → ℕ → Place → ℕ → List (List ℕ)
 placeFields ribbon n (given-at i) k = text "given" ∷ decimal i ∷ bandsAt ribbon n i ∷ decimal k ∷ []
 placeFields ribbon n (turned-at i) k = text "turned" ∷ decimal i ∷ bandsAt ribbon n i ∷ decimal k ∷ []
+placeFields ribbon n (either-at i) k = text "either" ∷ decimal i ∷ bandsAt ribbon n i ∷ decimal k ∷ []
 placeFields ribbon n nowhere k = []
 
 abbrev pub codeRow : List ℕ → List ℕ → List ℕ → List ℕ

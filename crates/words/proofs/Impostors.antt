@@ -1,7 +1,7 @@
 -- Wrong ways to turn words, to find their overlap and to place them, each written out and caught by its claim.
 -- A claim has one outcome, so an impostor is caught where what it gives is not what ours gives. The searches have their
 -- parts open, so that a right one and the wrong ones are instances of one definition.
-use mathlib.Core.Path.{_≡_, refl}
+use mathlib.Core.Path.{_≡_, refl, ap}
 use mathlib.Core.Bool.{Bool, true, false}
 use mathlib.Core.List.{List, [], _∷_, _++_}
 use Prim.Native.Nat.{ℕ, zero, suc, _-_}
@@ -10,12 +10,13 @@ use lib.Dec.{leb}
 use lib.ListN.{length, take, drop}
 use Rattle.words.specs.Tests.{pick, same}
 use Rattle.words.specs.Turn.{turned, Turns}
-use Rattle.words.specs.Stand.{begins}
+use Rattle.words.specs.Stand.{begins, standsIn}
 use Rattle.words.specs.Overlap.{Overlaps, overlapFrom, overlap}
-use Rattle.words.specs.Place.{Place, given-at, turned-at, nowhere, Finds, placeFrom, placePast, placeOf, found}
+use Rattle.words.specs.Place.{Place, given-at, turned-at, either-at, nowhere, Finds, standingAt}
+use Rattle.words.specs.Place.{placeFrom, placePast, placeOf, found}
 use Rattle.words.specs.Texts.{text}
 use Rattle.words.proofs.Tests.{differ}
-use Rattle.words.proofs.Turning.{turns-only}
+use Rattle.words.proofs.Turning.{turning, turns-only}
 use Rattle.words.proofs.Overlaps.{overlaps-only}
 use Rattle.words.proofs.Placing.{finds-only}
 
@@ -87,21 +88,36 @@ not-no-whole h =
 
 -- Places: what is found at a start, and which of two places is taken, this start's or a later one
 abbrev searchFrom : (ℕ → List ℕ → List ℕ → Place) → (Place → Place → Place) → ℕ → List ℕ → List ℕ → Place
-searchFrom here taken i c [] = here i c []
+searchFrom here taken i c [] = taken (here i c []) nowhere
 searchFrom here taken i c (b ∷ s) = taken (here i c (b ∷ s)) (searchFrom here taken (suc i) c s)
 
 abbrev choice : Bool → Place → Place → Place
 choice t p q = elim t [ true ↦ p | false ↦ q ]
 
--- at a start: given before turned; turned before given; given only
-abbrev givenFirst : ℕ → List ℕ → List ℕ → Place
-givenFirst i c s = choice (begins c s) (given-at i) (choice (begins (turned c) s) (turned-at i) nowhere)
+-- at a start: as given, or either way where a test of the word and of what is left of the row says so; else turned
+abbrev hereBy : (List ℕ → List ℕ → Bool) → ℕ → List ℕ → List ℕ → Place
+hereBy alike i c s =
+    choice (begins c s) (choice (alike c s) (either-at i) (given-at i)) (choice (begins (turned c) s) (turned-at i) nowhere)
+
+-- such tests: equal to its turned form, the right one; the turned form stands here or further on; the first band is the last
+abbrev equalTurned : List ℕ → List ℕ → Bool
+equalTurned c s = same c (turned c)
+
+abbrev elsewhere : List ℕ → List ℕ → Bool
+elsewhere c s = standsIn (turned c) s
+
+abbrev equalEnds : List ℕ → List ℕ → Bool
+equalEnds c s = same (take 1 c) (take 1 (turned c))
+
+-- by the right test; turned before given, and never either; given only
+abbrev here : ℕ → List ℕ → List ℕ → Place
+here = hereBy equalTurned
 
 abbrev turnedFirst : ℕ → List ℕ → List ℕ → Place
 turnedFirst i c s = choice (begins (turned c) s) (turned-at i) (choice (begins c s) (given-at i) nowhere)
 
 abbrev givenOnly : ℕ → List ℕ → List ℕ → Place
-givenOnly i c s = choice (begins c s) (given-at i) nowhere
+givenOnly i c s = choice (begins c s) (standingAt turned c i) nowhere
 
 -- of two places: the earlier; the later
 abbrev earlier : Place → Place → Place
@@ -116,28 +132,45 @@ past search i zero c s = search i c s
 past search i (suc k) c [] = nowhere
 past search i (suc k) c (b ∷ s) = past search (suc i) k c s
 
--- the right one; one direction only; turned before given; the last start; starts counted from 1, or from the first start;
--- the first start left out; the search begun behind the first start
-abbrev smallest : ℕ → List ℕ → List ℕ → Place
-smallest = past (searchFrom givenFirst earlier) 0
+-- the smallest place, by a test of what looks alike: the right one; given or turned for a word that looks alike; either for
+-- each word, for one whose turned form stands elsewhere, for one that begins as it ends
+abbrev smallestBy : (List ℕ → List ℕ → Bool) → ℕ → List ℕ → List ℕ → Place
+smallestBy alike = past (searchFrom (hereBy alike) earlier) 0
 
+abbrev smallest : ℕ → List ℕ → List ℕ → Place
+smallest = smallestBy equalTurned
+
+abbrev pub givenForAlike : ℕ → List ℕ → List ℕ → Place
+givenForAlike = smallestBy (λ c s. false)
+
+abbrev turnedForAlike : ℕ → List ℕ → List ℕ → Place
+turnedForAlike = past (searchFrom turnedFirst earlier) 0
+
+abbrev pub eitherForAll : ℕ → List ℕ → List ℕ → Place
+eitherForAll = smallestBy (λ c s. true)
+
+abbrev pub eitherForElsewhere : ℕ → List ℕ → List ℕ → Place
+eitherForElsewhere = smallestBy elsewhere
+
+abbrev eitherByEnds : ℕ → List ℕ → List ℕ → Place
+eitherByEnds = smallestBy equalEnds
+
+-- one direction only; the last start; starts counted from 1, or from the first start; the first start left out; the search
+-- begun behind the first start
 abbrev oneDirection : ℕ → List ℕ → List ℕ → Place
 oneDirection = past (searchFrom givenOnly earlier) 0
 
-abbrev turnedBefore : ℕ → List ℕ → List ℕ → Place
-turnedBefore = past (searchFrom turnedFirst earlier) 0
-
 abbrev lastStart : ℕ → List ℕ → List ℕ → Place
-lastStart = past (searchFrom givenFirst later) 0
+lastStart = past (searchFrom here later) 0
 
 abbrev fromOne : ℕ → List ℕ → List ℕ → Place
-fromOne = past (searchFrom givenFirst earlier) 1
+fromOne = past (searchFrom here earlier) 1
 
 abbrev fromFirst : ℕ → List ℕ → List ℕ → Place
-fromFirst = past (λ i. searchFrom givenFirst earlier 0) 0
+fromFirst = past (λ i. searchFrom here earlier 0) 0
 
 abbrev noFirst : ℕ → List ℕ → List ℕ → Place
-noFirst k = searchFrom givenFirst earlier 0
+noFirst k = searchFrom here earlier 0
 
 abbrev behindFirst : ℕ → List ℕ → List ℕ → Place
 behindFirst k = smallest (suc k)
@@ -145,67 +178,107 @@ behindFirst k = smallest (suc k)
 pub smallest-is-ours : (k : ℕ) (c s : List ℕ) → smallest k c s ≡ placeOf turned k c s
 smallest-is-ours k c s = over k 0 s
   where
-    or-later : (i : ℕ) (t u : Bool) {p q : Place} → p ≡ q
-        → earlier (choice t (given-at i) (choice u (turned-at i) nowhere)) p
-        ≡ choice t (given-at i) (choice u (turned-at i) q)
-    or-later i true u e = refl
-    or-later i false true e = refl
-    or-later i false false e = e
+    or-later : (i : ℕ) (t u v : Bool) {p q : Place} → p ≡ q
+        → earlier (choice t (choice v (either-at i) (given-at i)) (choice u (turned-at i) nowhere)) p
+        ≡ choice t (choice v (either-at i) (given-at i)) (choice u (turned-at i) q)
+    or-later i true u true e = refl
+    or-later i true u false e = refl
+    or-later i false true v e = refl
+    or-later i false false v e = e
 
-    from : (i : ℕ) (r : List ℕ) → searchFrom givenFirst earlier i c r ≡ placeFrom turned i c r
-    from i [] = refl
-    from i (b ∷ r) = or-later i (begins c (b ∷ r)) (begins (turned c) (b ∷ r)) (from (suc i) r)
+    from : (i : ℕ) (r : List ℕ) → searchFrom here earlier i c r ≡ placeFrom turned i c r
+    from i [] = or-later i (begins c []) (begins (turned c) []) (same c (turned c)) refl
+    from i (b ∷ r) = or-later i (begins c (b ∷ r)) (begins (turned c) (b ∷ r)) (same c (turned c)) (from (suc i) r)
 
-    over : (k i : ℕ) (r : List ℕ) → past (searchFrom givenFirst earlier) i k c r ≡ placePast turned k i c r
+    over : (k i : ℕ) (r : List ℕ) → past (searchFrom here earlier) i k c r ≡ placePast turned k i c r
     over zero i r = from i r
     over (suc k) i [] = refl
     over (suc k) i (b ∷ r) = over k (suc i) r
 
+-- The start, if there is one.
+abbrev startIn : Place → List ℕ
+startIn (given-at i) = i ∷ []
+startIn (turned-at i) = i ∷ []
+startIn (either-at i) = i ∷ []
+startIn nowhere = []
+
+-- Given for what looks alike is document 01's own rule, which M-103 replaced: each place starts where it did.
+pub starts-as-before : (k : ℕ) (c s : List ℕ) → startIn (placeOf turned k c s) ≡ startIn (givenForAlike k c s)
+starts-as-before k c s = over k 0 s
+  where
+    before : ℕ → List ℕ → List ℕ → Place
+    before = searchFrom (hereBy (λ c s. false)) earlier
+
+    or-later : (i : ℕ) (t u v : Bool) (p q : Place) → startIn p ≡ startIn q
+        → startIn (choice t (choice v (either-at i) (given-at i)) (choice u (turned-at i) p))
+        ≡ startIn (earlier (choice t (given-at i) (choice u (turned-at i) nowhere)) q)
+    or-later i true u true p q e = refl
+    or-later i true u false p q e = refl
+    or-later i false true v p q e = refl
+    or-later i false false v p q e = e
+
+    from : (i : ℕ) (r : List ℕ) → startIn (placeFrom turned i c r) ≡ startIn (before i c r)
+    from i [] = or-later i (begins c []) (begins (turned c) []) (same c (turned c)) nowhere nowhere refl
+    from i (b ∷ r) =
+        or-later i (begins c (b ∷ r)) (begins (turned c) (b ∷ r)) (same c (turned c)) (placeFrom turned (suc i) c r)
+        (before (suc i) c r) (from (suc i) r)
+
+    over : (k i : ℕ) (r : List ℕ) → startIn (placePast turned k i c r) ≡ startIn (past before i k c r)
+    over zero i r = from i r
+    over (suc k) i [] = refl
+    over (suc k) i (b ∷ r) = over k (suc i) r
+
+-- what is seen of a place: its way as a number, and its start
+abbrev seen : Place → List ℕ
+seen (given-at i) = 0 ∷ i ∷ []
+seen (turned-at i) = 1 ∷ i ∷ []
+seen (either-at i) = 2 ∷ i ∷ []
+seen nowhere = []
+
+caught : (find : ℕ → List ℕ → List ℕ → Place) (k : ℕ) (c s : List ℕ)
+    → same (seen (find k c s)) (seen (placeOf turned k c s)) ≡ false → Finds turned find → ⊥
+caught find k c s d h = differ d (ap seen (finds-only turning find h k c s))
+
+pub not-given-for-alike : Finds turned givenForAlike → ⊥
+unfolding turned
+not-given-for-alike = caught givenForAlike 0 (text "ABA") (text "ABA") refl
+
+pub not-turned-for-alike : Finds turned turnedForAlike → ⊥
+unfolding turned
+not-turned-for-alike = caught turnedForAlike 0 (text "A") (text "A") refl
+
+pub not-either-for-all : Finds turned eitherForAll → ⊥
+unfolding turned
+not-either-for-all = caught eitherForAll 0 (text "AB") (text "AB") refl
+
+pub not-either-for-elsewhere : Finds turned eitherForElsewhere → ⊥
+unfolding turned
+not-either-for-elsewhere = caught eitherForElsewhere 0 (text "AB") (text "ABBA") refl
+
+pub not-either-by-ends : Finds turned eitherByEnds → ⊥
+unfolding turned
+not-either-by-ends = caught eitherByEnds 0 (text "ABBCA") (text "ABBCA") refl
+
 pub not-one-direction : Finds turned oneDirection → ⊥
 unfolding turned
-not-one-direction h =
-    let e : nowhere ≡ turned-at 0 = finds-only oneDirection h 0 (text "AB") (text "BA") in
-    let z : _≡_ {A = ℕ} 0 1 = cc in
-    omega arith
-
-pub not-turned-before : Finds turned turnedBefore → ⊥
-unfolding turned
-not-turned-before h =
-    let e : turned-at 0 ≡ given-at 0 = finds-only turnedBefore h 0 (text "A") (text "A") in
-    let z : _≡_ {A = ℕ} 0 1 = cc in
-    omega arith
+not-one-direction = caught oneDirection 0 (text "AB") (text "BA") refl
 
 pub not-last-start : Finds turned lastStart → ⊥
 unfolding turned
-not-last-start h =
-    let e : given-at 1 ≡ given-at 0 = finds-only lastStart h 0 (text "A") (text "AA") in
-    let z : _≡_ {A = ℕ} 1 0 = cc in
-    omega arith
+not-last-start = caught lastStart 0 (text "A") (text "AA") refl
 
 pub not-from-one : Finds turned fromOne → ⊥
 unfolding turned
-not-from-one h =
-    let e : given-at 1 ≡ given-at 0 = finds-only fromOne h 0 (text "A") (text "A") in
-    let z : _≡_ {A = ℕ} 1 0 = cc in
-    omega arith
+not-from-one = caught fromOne 0 (text "A") (text "A") refl
 
 pub not-from-first : Finds turned fromFirst → ⊥
 unfolding turned
-not-from-first h =
-    let e : given-at 0 ≡ given-at 1 = finds-only fromFirst h 1 (text "A") (text "AA") in
-    let z : _≡_ {A = ℕ} 0 1 = cc in
-    omega arith
+not-from-first = caught fromFirst 1 (text "A") (text "AA") refl
 
 pub not-no-first : Finds turned noFirst → ⊥
 unfolding turned
-not-no-first h =
-    let e : given-at 0 ≡ given-at 1 = finds-only noFirst h 1 (text "A") (text "AA") in
-    let z : _≡_ {A = ℕ} 0 1 = cc in
-    omega arith
+not-no-first = caught noFirst 1 (text "A") (text "AA") refl
 
 pub not-behind-first : Finds turned behindFirst → ⊥
 unfolding turned
-not-behind-first h =
-    let e : nowhere ≡ given-at 0 = finds-only behindFirst h 0 (text "A") (text "A") in
-    let z : _≡_ {A = ℕ} 0 1 = cc in
-    omega arith
+not-behind-first = caught behindFirst 0 (text "A") (text "A") refl

@@ -1,6 +1,7 @@
 -- The place of a word on a row: ours meets the claim, for every way of turning and every first start, and nothing else
 -- does. A word stands at i exactly if what is left of the row from i on begins with it, and this the search asks of one
--- start after the other; so ours goes by induction over what is left of the row.
+-- start after the other; so ours goes by induction over what is left of the row. No way has to win: two words of one length
+-- that stand at one start are equal, so a word that stands there both ways looks alike.
 use mathlib.Core.Path.{_≡_, refl, sym, ap, subst, _∙_}
 use mathlib.Core.Logic.{inl, inr}
 use mathlib.Core.Bool.{Bool, true, false}
@@ -12,11 +13,13 @@ use native.Mathlib.Nat.{le-antisymm, le-of-lt}
 use lib.ListN.{length, drop, take, take-append-drop, length-drop}
 use lib.Seq.{length-take-le, drop-at, drop-drop}
 use Rattle.words.specs.Decides.{Decides, yes, no}
+use Rattle.words.specs.Turn.{Turning}
 use Rattle.words.specs.Stand.{StandsAt, StandsSomeWay, begins}
-use Rattle.words.specs.Place.{Place, given-at, turned-at, nowhere, Finds, placeFrom, placePast, placeOf, found}
-use Rattle.words.specs.Place.{Neither, NoneBefore, IsPlace, is-given, is-turned, is-nowhere}
-use Rattle.words.proofs.Deciding.{stable, by-cases, decides-via, is-le}
-use Rattle.words.proofs.Standing.{Begins, is-beginning, stands-length}
+use Rattle.words.specs.Place.{Place, given-at, turned-at, either-at, nowhere, LooksAlike, NoTie, Neither, NoneBefore}
+use Rattle.words.specs.Place.{IsPlace, is-given, is-turned, is-either, is-nowhere, Finds, standingAt}
+use Rattle.words.specs.Place.{placeFrom, placePast, placeOf, found}
+use Rattle.words.proofs.Deciding.{stable, by-cases, decides-via, is-le, is-same}
+use Rattle.words.proofs.Standing.{Begins, is-beginning, stands-length, stands-inside, stands-equal}
 
 -- Standing at a start i, by what is left of the row from there.
 module _ {c s : List ℕ} {i : ℕ} where
@@ -46,6 +49,10 @@ is-standing-at c {s} {r} {i} l e =
 pub drop-next : (k : ℕ) (s : List ℕ) {r : List ℕ} {b : ℕ} → drop k s ≡ b ∷ r → drop (suc k) s ≡ r
 drop-next k s e = rw (← add-one, ← drop-drop 1 k s, e)
 
+-- equal words stand at the same starts
+pub stands-as : {v w s : List ℕ} {i : ℕ} → v ≡ w → StandsAt v s i → StandsAt w s i
+stands-as {s} {i} = subst (λ (w : List ℕ). StandsAt w s i)
+
 -- The search, from the start k on.
 module _ (turn : List ℕ → List ℕ) (c s : List ℕ) where
   none-yet : {k : ℕ} → NoneBefore turn k c s k
@@ -60,8 +67,9 @@ module _ (turn : List ℕ → List ℕ) (c s : List ℕ) where
       go (no m) = later (omega arith)
 
   place-later : {k : ℕ} {p : Place} → Neither turn c s k → IsPlace turn (suc k) c s p → IsPlace turn k c s p
-  place-later n (is-given l h o) = is-given (le-of-lt l) h (λ j m b. past n m (λ r. o j r b))
-  place-later n (is-turned l x h o) = is-turned (le-of-lt l) x h (λ j m b. past n m (λ r. o j r b))
+  place-later n (is-given l d h o) = is-given (le-of-lt l) d h (λ j m b. past n m (λ r. o j r b))
+  place-later n (is-turned l d h o) = is-turned (le-of-lt l) d h (λ j m b. past n m (λ r. o j r b))
+  place-later n (is-either l e h o) = is-either (le-of-lt l) e h (λ j m b. past n m (λ r. o j r b))
   place-later n (is-nowhere o) = is-nowhere (λ j m. past n m (o j))
 
   beyond : {j : ℕ} → length s < j → Neither turn c s j
@@ -74,22 +82,31 @@ module _ (turn : List ℕ → List ℕ) (c s : List ℕ) where
   place-nowhere : {k : ℕ} → length s ≤ k → Neither turn c s k → IsPlace turn k c s nowhere
   place-nowhere e n = is-nowhere (λ j m. past n m (λ r. beyond (omega arith)))
 
+  -- c stands as given at the first start
+  place-here : {k : ℕ} → StandsAt c s k → IsPlace turn k c s (standingAt turn c k)
+  place-here {k} h =
+      by-cases
+      (IsPlace turn k c s)
+      (is-same c (turn c))
+      (λ e. is-either (omega arith) e h none-yet)
+      (λ d. is-given (omega arith) d h none-yet)
+
   -- what the search does at one start, going on to what it finds later
   by-start : {k : ℕ} {r : List ℕ} (p : Place) → k ≤ length s → drop k s ≡ r
       → (Neither turn c s k → IsPlace turn k c s p)
       → IsPlace turn k c s (elim (begins c r) [
-        | true ↦ given-at k
+        | true ↦ standingAt turn c k
         | false ↦ elim (begins (turn c) r) [ true ↦ turned-at k | false ↦ p ]
       ])
   by-start {k} p l e go-on =
       by-cases
       (IsPlace turn k c s)
       (is-standing-at c l e)
-      (λ h. is-given (omega arith) h none-yet)
+      place-here
       (λ x. by-cases
       (IsPlace turn k c s)
       (is-standing-at (turn c) l e)
-      (λ h. is-turned (omega arith) x h none-yet)
+      (λ h. is-turned (omega arith) (λ a. x (stands-as (sym a) h)) h none-yet)
       (λ y. go-on (record { not-given = x; not-turned = y })))
 
   place-left : (r : List ℕ) (k : ℕ) → k ≤ length s → drop k s ≡ r → IsPlace turn k c s (placeFrom turn k c r)
@@ -120,7 +137,18 @@ record First (turn : List ℕ → List ℕ) (k : ℕ) (c s : List ℕ) (i : ℕ)
   some : Neither turn c s i → ⊥
   none-before : NoneBefore turn k c s i
 
-module _ {turn : List ℕ → List ℕ} {k : ℕ} {c s : List ℕ} where
+-- two words of one length at one start are equal
+one-word : {a b s : List ℕ} {i : ℕ} → length b ≡ length a → StandsAt a s i → StandsAt b s i → a ≡ b
+one-word n h g =
+    let l = h .start in
+    let m = g .start in
+    sym (stands-equal n (stands-inside (h .stands) (g .stands) (omega (arith, l, m)) (omega (arith, l, m))))
+
+-- so a word that stands both ways at one start looks alike
+pub no-tie : {turn : List ℕ → List ℕ} → Turning turn → NoTie turn
+no-tie t c s i h g = one-word (t .as-long c) h g
+
+module _ {turn : List ℕ → List ℕ} (t : Turning turn) {k : ℕ} {c s : List ℕ} where
   first-given : {i : ℕ} → k ≤ i → StandsAt c s i → NoneBefore turn k c s i → First turn k c s i
   first-given l h n = record { from-on = l; some = λ x. x .not-given h; none-before = n }
 
@@ -133,32 +161,43 @@ module _ {turn : List ℕ → List ℕ} {k : ℕ} {c s : List ℕ} where
   one-start : {i j : ℕ} → First turn k c s i → First turn k c s j → i ≡ j
   one-start a b = le-antisymm (no-later b a) (no-later a b)
 
-  one-way : {i j : ℕ} → First turn k c s i → First turn k c s j → StandsAt c s i → (StandsAt c s j → ⊥) → ⊥
-  one-way a b h x = x (subst (StandsAt c s) (one-start a b) h)
+  -- the smallest start is no word's as given and turned, unless it looks alike
+  one-way : {i j : ℕ} → First turn k c s i → First turn k c s j → StandsAt c s i → StandsAt (turn c) s j
+      → LooksAlike turn c
+  one-way {j} a b h g = no-tie t c s j (subst (StandsAt c s) (one-start a b) h) g
 
   pub place-one : {p q : Place} → IsPlace turn k c s p → IsPlace turn k c s q → p ≡ q
-  place-one (is-given l h n) (is-given m g o) = ap given-at (one-start (first-given l h n) (first-given m g o))
-  place-one (is-given l h n) (is-turned m x g o) = absurd (one-way (first-given l h n) (first-turned m g o) h x)
-  place-one (is-given l h n) (is-nowhere o) = absurd (o _ l .not-given h)
-  place-one (is-turned l x h n) (is-given m g o) = absurd (one-way (first-given m g o) (first-turned l h n) g x)
-  place-one (is-turned l x h n) (is-turned m y g o) = ap turned-at (one-start (first-turned l h n) (first-turned m g o))
-  place-one (is-turned l x h n) (is-nowhere o) = absurd (o _ l .not-turned h)
-  place-one (is-nowhere n) (is-given m g o) = absurd (n _ m .not-given g)
-  place-one (is-nowhere n) (is-turned m x g o) = absurd (n _ m .not-turned g)
+  place-one (is-given l d h n) (is-given m e g o) = ap given-at (one-start (first-given l h n) (first-given m g o))
+  place-one (is-given l d h n) (is-turned m e g o) = absurd (d (one-way (first-given l h n) (first-turned m g o) h g))
+  place-one (is-given l d h n) (is-either m e g o) = absurd (d e)
+  place-one (is-given l d h n) (is-nowhere o) = absurd (o _ l .not-given h)
+  place-one (is-turned l d h n) (is-given m e g o) = absurd (d (one-way (first-given m g o) (first-turned l h n) g h))
+  place-one (is-turned l d h n) (is-turned m e g o) = ap turned-at (one-start (first-turned l h n) (first-turned m g o))
+  place-one (is-turned l d h n) (is-either m e g o) = absurd (d e)
+  place-one (is-turned l d h n) (is-nowhere o) = absurd (o _ l .not-turned h)
+  place-one (is-either l e h n) (is-given m d g o) = absurd (d e)
+  place-one (is-either l e h n) (is-turned m d g o) = absurd (d e)
+  place-one (is-either l e h n) (is-either m f g o) = ap either-at (one-start (first-given l h n) (first-given m g o))
+  place-one (is-either l e h n) (is-nowhere o) = absurd (o _ l .not-given h)
+  place-one (is-nowhere n) (is-given m d g o) = absurd (n _ m .not-given g)
+  place-one (is-nowhere n) (is-turned m d g o) = absurd (n _ m .not-turned g)
+  place-one (is-nowhere n) (is-either m e g o) = absurd (n _ m .not-given g)
   place-one (is-nowhere n) (is-nowhere o) = refl
 
-pub place-is : {turn : List ℕ → List ℕ} {k : ℕ} {c s : List ℕ} {p : Place} → IsPlace turn k c s p → p ≡ placeOf turn k c s
-place-is {turn} {k} {c} {s} h = place-one h (finds-ours turn k c s)
+module _ {turn : List ℕ → List ℕ} (t : Turning turn) where
+  pub place-is : {k : ℕ} {c s : List ℕ} {p : Place} → IsPlace turn k c s p → p ≡ placeOf turn k c s
+  place-is {k} {c} {s} h = place-one t h (finds-ours turn k c s)
 
-pub finds-only : {turn : List ℕ → List ℕ} (find : ℕ → List ℕ → List ℕ → Place) → Finds turn find → (k : ℕ) (c s : List ℕ)
-    → find k c s ≡ placeOf turn k c s
-finds-only find h k c s = place-is (h k c s)
+  pub finds-only : (find : ℕ → List ℕ → List ℕ → Place) → Finds turn find → (k : ℕ) (c s : List ℕ)
+      → find k c s ≡ placeOf turn k c s
+  finds-only find h k c s = place-is (h k c s)
 
 -- A word has a place exactly if it stands some way.
 place-found : {turn : List ℕ → List ℕ} {c s : List ℕ} {p : Place} → IsPlace turn 0 c s p
     → Decides (StandsSomeWay turn c s) (found p)
-place-found (is-given l h n) = yes (inl (h .stands))
-place-found (is-turned l x h n) = yes (inr (h .stands))
+place-found (is-given l d h n) = yes (inl (h .stands))
+place-found (is-turned l d h n) = yes (inr (h .stands))
+place-found (is-either l e h n) = yes (inl (h .stands))
 place-found (is-nowhere n) =
     no (elim [
       | inl h ↦ n (length (h .before)) (omega arith) .not-given (record { stands = h; start = refl })

@@ -1,4 +1,4 @@
--- `rows::put_way` meets its contract, for either way.
+-- `rows::put_way` meets its contract, for every way.
 use mathlib.Core.Path.{ap}
 use lib.ListN.{length}
 use Rattle.words.proofs.Written.{written-as}
@@ -26,6 +26,15 @@ slice-aggregate-put-word-2 c = search needs
 put-word-requires-2 : tie.Need-put-word-requires-2
 put-word-requires-2 c κs = omega (arith, ap (λ w. length (wayText w)) (c .before .before .enum-told2 .given .1))
 
+enum-told-3 : tie.Need-enum-told-3
+enum-told-3 c = search needs
+
+slice-aggregate-put-word-3 : tie.Need-slice-aggregate-put-word-3
+slice-aggregate-put-word-3 c = search needs
+
+put-word-requires-3 : tie.Need-put-word-requires-3
+put-word-requires-3 c κs = omega (arith, ap (λ w. length (wayText w)) (c .before .before .enum-told3 .given .1))
+
 same-length : tie.Need-same-length
 same-length c = search needs
 
@@ -42,6 +51,14 @@ returns-2 c =
     let k = c .before .before in
     written-as (ap wayText (k .before .before .before .enum-told2 .given .1)) (k .put-word2 .ensures)
 
+same-length-3 : tie.Need-same-length-3
+same-length-3 c = search needs
+
+returns-3 : tie.Need-returns-3
+returns-3 c =
+    let k = c .before .before in
+    written-as (ap wayText (k .before .before .before .enum-told3 .given .1)) (k .put-word3 .ensures)
+
 pub put-way-spec : {M : Type 1} → statement M
 put-way-spec =
     tie.close
@@ -52,7 +69,12 @@ put-way-spec =
     enum-told-2
     slice-aggregate-put-word-2
     put-word-requires-2
+    enum-told-3
+    slice-aggregate-put-word-3
+    put-word-requires-3
     same-length
     returns
     same-length-2
-    returns-2)
+    returns-2
+    same-length-3
+    returns-3)
