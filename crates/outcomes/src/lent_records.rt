@@ -30,8 +30,11 @@ fn mark(i: usize) -> Place {
     let n = (i % MOST_RECORDS) as u32;
     let start = 2000 + n;
     let mut way = Way::Given(start);
-    if i % 2 == 1 {
+    if i % 3 == 1 {
         way = Way::Turned(start);
+    }
+    if i % 3 == 2 {
+        way = Way::Either(start);
     }
     Place {
         code: 1000 + n,

@@ -56,9 +56,10 @@ impl Held for Place {
 
     fn mark(place: usize) -> Place {
         let place = place as u32;
-        let way = match place % 2 {
+        let way = match place % 3 {
             0 => Way::Given(2_000 + place),
-            _ => Way::Turned(2_000 + place),
+            1 => Way::Turned(2_000 + place),
+            _ => Way::Either(2_000 + place),
         };
         Place {
             code: 1_000 + place,

@@ -67,7 +67,7 @@ fn lent_buffers_before_a_call() {
         [
             place(1_000, Way::Given(2_000)),
             place(1_001, Way::Turned(2_001)),
-            place(1_002, Way::Given(2_002))
+            place(1_002, Way::Either(2_002))
         ]
     );
     assert_eq!(lent::<u8>(65_535).len(), 17_408);
@@ -116,13 +116,13 @@ fn records_are_said_or_fed_as_three_numbers() {
         place(1_003, Way::Turned(2_003)),
         place(1_004, Way::Turned(2_004)),
         place(1_005, Way::Either(2_005)),
-        place(1_006, Way::Given(2_006)),
+        place(1_006, Way::Either(2_006)),
     ];
-    let ways = [1, 1, 2, 0];
+    let ways = [1, 1, 2, 2];
     let fed = [3, 4, 5, 6].map(|i| [1_000 + i, ways[i as usize - 3], 2_000 + i]);
     let mut text = Text::default();
     text.lent("a", &records, 3);
-    // The second behind the result was given, and the third turned.
+    // Behind the result the first and the last were given.
     let said = "a,7,0 given 2;1 turned 0;2 either 4,kept,2\n";
     assert_text(text, said, fed.as_flattened());
 }
