@@ -208,16 +208,6 @@ fn dropped_codes_that_look_alike_stand_inside_others() {
 }
 
 #[test]
-fn the_worked_example_stays() {
-    let list = b"name,code\r\nPump,AABB\r\nFan,AAAC\r\nLamp,ABBB\r\n";
-    let expected = b"name,way,start,bands,places\r\n\
-        Pump,given,2,AABB,1\r\n\
-        Fan,turned,0,CAAA,1\r\n\
-        Lamp,given,3,ABBB,1\r\n";
-    assert_eq!(sheet_output(list), expected);
-}
-
-#[test]
 fn the_checks_answers_stay() {
     for (codes, row, expected) in [
         (&["ABA"][..], "ABA", Checked::Held(0)),
