@@ -97,6 +97,10 @@ difference_one (fewer x) (fewer y) = ap negsuc (omega arith)
 
 records_one : (i : ℕ) (cs : List (List ℕ)) (row : List ℕ) (rs ts : List PlaceRecord) → AreRecords i cs row rs
     → AreRecords i cs row ts → rs ≡ ts
+records_one i [] row [] (t ∷ ts) x y = elim y [ ]
+records_one i [] row (r ∷ rs) ts x y = elim x [ ]
+records_one i (c ∷ cs) row [] ts x y = elim x [ ]
+records_one i (c ∷ cs) row (r ∷ rs) [] x y = elim y [ ]
 records_one i [] row [] [] x y = refl
 records_one i (c ∷ cs) row (r ∷ rs) (t ∷ ts) x y =
     ap₂ (λ (u : PlaceRecord) (us : List PlaceRecord). u ∷ us) (one r t x.0 y.0 (place_one turning x.1 y.1))

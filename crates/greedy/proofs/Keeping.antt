@@ -35,6 +35,7 @@ code_in_lem (c ∷ cs) zero l = inl refl
 code_in_lem (c ∷ cs) (suc i) l = inr (code_in_lem cs i (omega arith))
 
 pub in_code : (cs : List (List ℕ)) (c : List ℕ) → In c cs → (i : ℕ) × (i < length cs) × (c ≡ code_at cs i)
+in_code [] c x' = elim x' [ ]
 in_code (d ∷ cs) c (inl e) = (0, omega arith, e)
 in_code (d ∷ cs) c (inr x) = let r = in_code cs c x in (suc r.0, omega (arith, r.1), r.2)
 

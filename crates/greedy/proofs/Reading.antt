@@ -71,6 +71,8 @@ module _ (turn : List ℕ → List ℕ) (ks : List (List ℕ)) where
           )
 
   pub face_in : (f : ℕ) (p : List ℕ) → In f p → Stands (face_of turn ks f) (read_piece turn ks p)
+  face_in f [] x' = elim x' [ ]
+  face_in f (g ∷ []) (inr i) = elim i [ ]
   face_in f (g ∷ p) (inl e) = rw e (record { before = []; after = past turn ks g p; parts = refl })
   face_in f (g ∷ (k ∷ p)) (inr i) =
       let r = onward g k p in

@@ -32,6 +32,8 @@ end_go n f g js e =
 
 end_head : (js : List Join) (n : ℕ) (p : List ℕ) → Some p → Linked js p → after_in (last_of p) js ≡ 0 → length p ≤ n
     → end_from_lem n (head_of p) js ≡ last_of p
+end_head js zero [] s r e h = elim s [ ]
+end_head js (suc n) [] s r e h = elim s [ ]
 end_head js zero (f ∷ p) s r e h = absurd (omega arith)
 end_head js (suc n) (f ∷ []) s r e h = end_stop n f js e
 end_head js (suc n) (f ∷ (g ∷ p)) s r e h =
@@ -39,11 +41,15 @@ end_head js (suc n) (f ∷ (g ∷ p)) s r e h =
 
 pub end_in : (js : List Join) (n : ℕ) (p : List ℕ) (f : ℕ) → Linked js p → after_in (last_of p) js ≡ 0 → length p ≤ n
     → In f p → end_from_lem n f js ≡ last_of p
+end_in js n [] f r e h x4 = elim x4 [ ]
+end_in js n (g ∷ []) f r e h (inr i) = elim i [ ]
 end_in js n (g ∷ p) f r e h (inl q) = ap (λ (x : ℕ). end_from_lem n x js) q ∙ end_head js n (g ∷ p) tt r e h
 end_in js n (g ∷ (k ∷ p)) f r e h (inr i) = end_in js n (k ∷ p) f r.1 e (omega arith) i
 
 -- a face with none after it is the last of its piece, and one with none before it, by the flip, the first
 last_in : (js : List Join) (f : ℕ) (p : List ℕ) → Linked js p → after_in f js ≡ 0 → In f p → last_of p ≡ f
+last_in js f [] r e x3 = elim x3 [ ]
+last_in js f (g ∷ []) r e (inr i) = elim i [ ]
 last_in js f (g ∷ []) r e (inl q) = sym q
 last_in js f (g ∷ (k ∷ p)) r e (inl q) = absurd (omega (arith, ap (λ (x : ℕ). after_in x js) q, r.0.0))
 last_in js f (g ∷ (k ∷ p)) r e (inr i) = last_in js f (k ∷ p) r.1 e i

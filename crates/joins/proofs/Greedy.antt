@@ -27,6 +27,9 @@ pub data Greedy (w : ℕ → ℕ → ℕ) : List (List ℕ) → List ℕ → Typ
 -- the junctions within a piece: of two parts, and flipped
 along_append : (w : ℕ → ℕ → ℕ) (p q : List ℕ) → Some p → Some q
     → along w (p ++ q) ≡ along w p + (meet w p q + along w q)
+along_append w [] q s t = elim s [ ]
+along_append w (f ∷ []) [] s t = elim t [ ]
+along_append w (f ∷ (h ∷ p)) [] s t = elim t [ ]
 along_append w (f ∷ []) (g ∷ q) s t = omega arith
 along_append w (f ∷ (h ∷ p)) (g ∷ q) s t = omega (arith, along_append w (h ∷ p) (g ∷ q) tt tt)
 

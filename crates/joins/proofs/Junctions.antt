@@ -28,6 +28,8 @@ meet_none w [] = refl
 meet_none w (a ∷ x) = refl
 
 pub meet_some : (w : ℕ → ℕ → ℕ) (x y : List ℕ) → Some x → Some y → meet w x y ≡ w (last_of x) (head_of y)
+meet_some w [] y s t = elim s [ ]
+meet_some w (a ∷ x) [] s t = elim t [ ]
 meet_some w (a ∷ x) (b ∷ y) s t = refl
 
 pub meet_flip : (w : ℕ → ℕ → ℕ) → Even w → (x y : List ℕ) → meet w x y ≡ meet w (flip y) (flip x)
@@ -38,15 +40,20 @@ meet_flip w m (a ∷ x) (b ∷ y) =
     sym (rw (e, last_flip (b ∷ y) tt, head_flip (a ∷ x) tt) (m (last_of (a ∷ x)) b))
 
 pub meet_before : (w : ℕ → ℕ → ℕ) (p q : List ℕ) → Some p → (x : List ℕ) → meet w x (p ++ q) ≡ meet w x p
+meet_before w [] q s _ = elim s [ ]
 meet_before w (a ∷ p) q s [] = refl
 meet_before w (a ∷ p) q s (b ∷ x) = refl
 
 pub meet_after : (w : ℕ → ℕ → ℕ) (p q : List ℕ) → Some p → Some q → (y : List ℕ) → meet w (p ++ q) y ≡ meet w q y
+meet_after w [] q s t y = elim s [ ]
+meet_after w (a ∷ p) [] s t y = elim t [ ]
 meet_after w (a ∷ p) (b ∷ q) s t [] = refl
 meet_after w (a ∷ p) (b ∷ q) s t (c ∷ y) = ap (λ (k : ℕ). w k c) (last_append (a ∷ p) (b ∷ q) tt)
 
 pub meet_monge : (w : ℕ → ℕ → ℕ) → Monge w → (p q : List ℕ) → Some p → Some q → (x z : List ℕ)
     → meet w p z ≤ meet w p q → meet w x q ≤ meet w p q → meet w p z + meet w x q ≤ meet w p q + meet w x z
+meet_monge w mg [] q s t _ z h k = elim s [ ]
+meet_monge w mg (a ∷ p) [] s t _ z h k = elim t [ ]
 meet_monge w mg (a ∷ p) (b ∷ q) s t [] [] h k = omega arith
 meet_monge w mg (a ∷ p) (b ∷ q) s t [] (d ∷ z) h k = omega arith
 meet_monge w mg (a ∷ p) (b ∷ q) s t (c ∷ x) [] h k = omega arith

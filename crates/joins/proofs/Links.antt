@@ -32,6 +32,8 @@ Linked js (f ∷ (g ∷ p)) = Link js f g × Linked js (g ∷ p)
 
 pub linked_append : (js : List Join) (p q : List ℕ) → Some p → Some q → Linked js p → Linked js q
     → Link js (last_of p) (head_of q) → Linked js (p ++ q)
+linked_append js [] q s t r u l = elim s [ ]
+linked_append js (f ∷ []) [] s t r u l = elim t [ ]
 linked_append js (f ∷ []) (g ∷ q) s t r u l = (l, u)
 linked_append js (f ∷ (h ∷ p)) q s t r u l = (r.0, linked_append js (h ∷ p) q tt t r.1 u l)
 

@@ -31,6 +31,8 @@ read_go n f g js e =
 
 read_linked : (js : List Join) (n : ℕ) (p : List ℕ) → Some p → Linked js p → after_in (last_of p) js ≡ 0 → length p ≤ n
     → piece_from n (head_of p) js ≡ p
+read_linked js zero [] s r e h = elim s [ ]
+read_linked js (suc n) [] s r e h = elim s [ ]
 read_linked js zero (f ∷ p) s r e h = absurd (omega arith)
 read_linked js (suc n) (f ∷ []) s r e h = read_stop n f js e
 read_linked js (suc n) (f ∷ (g ∷ p)) s r e h =

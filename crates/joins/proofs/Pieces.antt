@@ -30,6 +30,7 @@ Some [] = ⊥
 Some (f ∷ p) = Unit {0}
 
 pub some_left : (p q : List ℕ) → Some p → Some (p ++ q)
+some_left [] q s = elim s [ ]
 some_left (f ∷ p) q s = tt
 
 some_right : (p q : List ℕ) → Some q → Some (p ++ q)
@@ -37,32 +38,40 @@ some_right [] q s = s
 some_right (f ∷ p) q s = tt
 
 pub some_flip : (p : List ℕ) → Some p → Some (flip p)
+some_flip [] s = elim s [ ]
 some_flip (f ∷ p) s = some_right (flip p) (mirror f ∷ []) tt
 
 pub head_append : (p q : List ℕ) → Some p → head_of (p ++ q) ≡ head_of p
+head_append [] q s = elim s [ ]
 head_append (f ∷ p) q s = refl
 
 pub last_append : (p q : List ℕ) → Some q → last_of (p ++ q) ≡ last_of q
+last_append (f ∷ []) [] s = elim s [ ]
 last_append [] q s = refl
 last_append (f ∷ []) (g ∷ q) s = refl
 last_append (f ∷ (h ∷ p)) q s = last_append (h ∷ p) q s
 
 pub head_flip : (p : List ℕ) → Some p → head_of (flip p) ≡ mirror (last_of p)
+head_flip [] s = elim s [ ]
 head_flip (f ∷ []) s = refl
 head_flip (f ∷ (g ∷ p)) s = head_append (flip (g ∷ p)) (mirror f ∷ []) (some_flip (g ∷ p) tt) ∙ head_flip (g ∷ p) tt
 
 pub last_flip : (p : List ℕ) → Some p → last_of (flip p) ≡ mirror (head_of p)
+last_flip [] s = elim s [ ]
 last_flip (f ∷ p) s = last_append (flip p) (mirror f ∷ []) tt
 
 -- the faces in it
 pub in_head : (p : List ℕ) → Some p → In (head_of p) p
+in_head [] s = elim s [ ]
 in_head (f ∷ p) s = inl refl
 
 pub in_last : (p : List ℕ) → Some p → In (last_of p) p
+in_last [] s = elim s [ ]
 in_last (f ∷ []) s = inl refl
 in_last (f ∷ (g ∷ p)) s = inr (in_last (g ∷ p) tt)
 
 pub in_flip : (f : ℕ) (p : List ℕ) → In (mirror f) p → In f (flip p)
+in_flip f [] x' = elim x' [ ]
 in_flip f (g ∷ p) (inl e) = in_right f (flip p) (mirror g ∷ []) (inl (sym (mirror-mirror f) ∙ ap mirror e))
 in_flip f (g ∷ p) (inr i) = in_left f (flip p) (mirror g ∷ []) (in_flip f p i)
 
@@ -83,6 +92,7 @@ pub of_mirror : (k f : ℕ) → is_of k (mirror f) ≡ is_of k f
 of_mirror k f = ap (λ (x : ℕ). pick (eqb k x) 1 0) (mirror_half f)
 
 pub in_times : (f : ℕ) (p : List ℕ) → In f p → 1 ≤ times_of (f / 2) p
+in_times f [] x' = elim x' [ ]
 in_times f (g ∷ p) (inl e) = omega (arith, is_of_lem (f / 2) g (ap (λ (x : ℕ). x / 2) e))
 in_times f (g ∷ p) (inr i) = omega (arith, in_times f p i)
 

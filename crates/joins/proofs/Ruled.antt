@@ -34,6 +34,7 @@ after_joined f g (j ∷ js) e = go (ℕ_discrete f j.left) (after_joined f g js)
     go (no n) ih = inr (ih (sym (after_not f j.left j.right js n) ∙ e))
 
 joined_after : (f g : ℕ) (js : List Join) → Joined js f g → after_in f js ≢ 0
+joined_after f g [] x'' z = elim x'' [ ]
 joined_after f g (j ∷ js) (inl e) z = omega (arith, after_yes f j.left j.right js e.0)
 joined_after f g (j ∷ js) (inr i) z = go (ℕ_discrete f j.left) (joined_after f g js i)
   where
@@ -101,10 +102,12 @@ module _ {n : ℕ} where
     back_joined g k x = subst (Joined js (mirror k)) (mirror-mirror g) (mirror_joined r (mirror g) k x)
 
     chain_linked : (p : List ℕ) → Chain js p → Linked js p
+    chain_linked [] c = elim c [ ]
     chain_linked (f ∷ []) c = tt
     chain_linked (f ∷ (g ∷ p)) c = (joined_link f g c.0, chain_linked (g ∷ p) c.1)
 
     chain_some : (p : List ℕ) → Chain js p → Some p
+    chain_some [] c = elim c [ ]
     chain_some (f ∷ p) c = tt
 
     pub piece_of : (p : List ℕ) → IsPiece js p → Piece js p
@@ -117,6 +120,7 @@ module _ {n : ℕ} where
         }
 
     linked_chain : (p : List ℕ) → Some p → Linked js p → Chain js p
+    linked_chain [] s l = elim s [ ]
     linked_chain (f ∷ []) s l = tt
     linked_chain (f ∷ (g ∷ p)) s l = (after_joined f g js l.0.0, linked_chain (g ∷ p) tt l.1)
 
@@ -131,6 +135,9 @@ module _ {n : ℕ} where
 -- two pieces with a face in common are the same
 same_linked : (js : List Join) (p q : List ℕ) → Some p → Some q → Linked js p → Linked js q → after_in (last_of p) js ≡ 0
     → after_in (last_of q) js ≡ 0 → head_of p ≡ head_of q → p ≡ q
+same_linked js [] q s t r u d e h = elim s [ ]
+same_linked js (f ∷ []) [] s t r u d e h = elim t [ ]
+same_linked js (f ∷ (k ∷ p)) [] s t r u d e h = elim t [ ]
 same_linked js (f ∷ []) (g ∷ []) s t r u d e h = cc
 same_linked js (f ∷ []) (g ∷ (k ∷ q)) s t r u d e h = absurd (omega (arith, u.0.0, ap (λ (x : ℕ). after_in x js) h))
 same_linked js (f ∷ (k ∷ p)) (g ∷ []) s t r u d e h = absurd (omega (arith, r.0.0, ap (λ (x : ℕ). after_in x js) h))

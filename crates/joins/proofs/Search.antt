@@ -87,6 +87,7 @@ module _ {better : Join → Join → Bool} (law : Comparison better) (may : Join
 
 -- All joins between the faces below m are tried, and no others.
 in_below : (m a : ℕ) → In a (below m) → a < m
+in_below zero a x' = elim x' [ ]
 in_below (suc m) a (inl e) = omega arith
 in_below (suc m) a (inr i) = omega (arith, in_below m a i)
 
@@ -99,12 +100,14 @@ below_in (suc m) a l = go (ℕ_discrete a m) (below_in m a)
     go (no n) f = inr (f (omega arith))
 
 pair_in : (fs bs : List ℕ) (a b : ℕ) → In a fs → In b bs → In (join a b) (pairs fs bs)
+pair_in [] bs a b x'' j = elim x'' [ ]
 pair_in (c ∷ fs) bs a b (inl e) j =
     let here = in_left _ (map (join a) bs) _ (in_map (join a) b bs j) in
     subst (λ (x : ℕ). In (join a b) (map (join x) bs ++ pairs fs bs)) e here
 pair_in (c ∷ fs) bs a b (inr i) j = in_right _ (map (join c) bs) _ (pair_in fs bs a b i j)
 
 in_pair : (fs bs : List ℕ) (j : Join) → In j (pairs fs bs) → In j.left fs × In j.right bs
+in_pair [] bs j i = elim i [ ]
 in_pair (c ∷ fs) bs j i = go (in_either j (map (join c) bs) (pairs fs bs) i) (in_pair fs bs j)
   where
     go : In j (map (join c) bs) ⊎ In j (pairs fs bs) → (In j (pairs fs bs) → In j.left fs × In j.right bs)

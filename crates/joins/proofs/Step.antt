@@ -72,6 +72,7 @@ module _ (a b : ℕ) (js : List Join) where
 
 -- the two ends of a piece are no mirrors of each other
 ends_apart : (p : List ℕ) → Some p → ((k : ℕ) → times_of k p ≤ 1) → head_of p ≢ mirror (last_of p)
+ends_apart [] s o e = elim s [ ]
 ends_apart (f ∷ []) s o e = mirror_ne f e
 ends_apart (f ∷ (g ∷ p)) s o e =
     let h : last_of (g ∷ p) / 2 ≡ f / 2 = sym (mirror_half (last_of (g ∷ p))) ∙ ap (λ (x : ℕ). x / 2) (sym e) in

@@ -24,6 +24,8 @@ is_lower (x ∷ xs) [] = Decides.no (λ h. h)
 is_lower (x ∷ xs) (y ∷ ys) = decides_or (is_lt x y) (decides_and (is_eq x y) (is_lower xs ys))
 
 lower_one_way : (xs ys : List ℕ) → Lower xs ys → Lower ys xs → ⊥
+lower_one_way [] [] h k = elim h [ ]
+lower_one_way (x ∷ xs) [] h k = elim h [ ]
 lower_one_way [] (y ∷ ys) h k = k
 lower_one_way (x ∷ xs) (y ∷ ys) (inl l) (inl m) = omega arith
 lower_one_way (x ∷ xs) (y ∷ ys) (inl l) (inr m) = omega (arith, m.0)
@@ -31,6 +33,10 @@ lower_one_way (x ∷ xs) (y ∷ ys) (inr l) (inl m) = omega (arith, l.0)
 lower_one_way (x ∷ xs) (y ∷ ys) (inr l) (inr m) = lower_one_way xs ys l.1 m.1
 
 lower_onward : (xs ys zs : List ℕ) → Lower xs zs → (Lower xs ys → ⊥) → (Lower ys zs → ⊥) → ⊥
+lower_onward [] [] [] h p q = elim h [ ]
+lower_onward [] (y ∷ ys) [] h p q = elim h [ ]
+lower_onward (x ∷ xs) [] [] h p q = elim h [ ]
+lower_onward (x ∷ xs) (y ∷ ys) [] h p q = elim h [ ]
 lower_onward [] [] (z ∷ zs) h p q = q tt
 lower_onward [] (y ∷ ys) (z ∷ zs) h p q = p tt
 lower_onward (x ∷ xs) [] (z ∷ zs) h p q = q tt

@@ -46,6 +46,7 @@ module _ (turn : List ℕ → List ℕ) (c s : List ℕ) where
         }
       where
         only : (i : ℕ) → In i h.starts ⊎ In i (j ∷ []) → (i < suc j) × StandsHere turn c s i
+        only i (inr (inr x3)) = elim x3 [ ]
         only i (inl y) = let o = h.only i y in (omega (arith, o.0), o.1)
         only i (inr (inl e)) = (omega arith, rw e x)
 

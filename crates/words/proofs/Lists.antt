@@ -9,6 +9,7 @@ use Rattle.words.specs.Lists.{In, Each, Rising}
 
 module _ {A : Type 0} where
   pub in_left : (x : A) (xs ys : List A) → In x xs → In x (xs ++ ys)
+  in_left x [] ys x'' = elim x'' [ ]
   in_left x (y ∷ xs) ys (inl e) = inl e
   in_left x (y ∷ xs) ys (inr i) = inr (in_left x xs ys i)
 
@@ -27,10 +28,12 @@ module _ {A : Type 0} where
 
 module _ {A B : Type 0} (f : A → B) where
   pub in_map : (x : A) (xs : List A) → In x xs → In (f x) (map f xs)
+  in_map x [] x'' = elim x'' [ ]
   in_map x (y ∷ xs) (inl e) = inl (ap f e)
   in_map x (y ∷ xs) (inr i) = inr (in_map x xs i)
 
   pub map_in : (z : B) (xs : List A) → In z (map f xs) → (x : A) × In x xs × (z ≡ f x)
+  map_in z [] x' = elim x' [ ]
   map_in z (y ∷ xs) (inl e) = (y, inl refl, e)
   map_in z (y ∷ xs) (inr i) = let r = map_in z xs i in (r.0, inr r.1, r.2)
 
@@ -40,6 +43,7 @@ module _ {A : Type 0} (P : A → Type 0) where
   in_each (x ∷ xs) f = (f x (inl refl), in_each xs (λ y i. f y (inr i)))
 
   pub each_in : (xs : List A) (x : A) → Each P xs → In x xs → P x
+  each_in [] x _ x5 = elim x5 [ ]
   each_in (y ∷ ys) x (p, h) (inl e) = rw e p
   each_in (y ∷ ys) x (p, h) (inr i) = each_in ys x h i
 
@@ -106,5 +110,6 @@ rising_more [] k r h = ((λ j x. absurd x), tt)
 rising_more (i ∷ p) k r h = ((λ j x. go j (in_either j p (k ∷ []) x)), rising_more p k r.1 (λ j x. h j (inr x)))
   where
     go : (j : ℕ) → In j p ⊎ In j (k ∷ []) → i < j
+    go j (inr (inr x4)) = elim x4 [ ]
     go j (inl x) = r.0 j x
     go j (inr (inl e)) = omega (arith, h i (inl refl))
