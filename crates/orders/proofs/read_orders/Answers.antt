@@ -17,7 +17,8 @@ returns-then-file-eq0 c =
     let a = c.args in
     let b = lent a.bands.now a.lengths.now a.names.now a.sizes.now in
     reads_orders a.file.now b
-    (rw c.refused-then-file-eq0.ensures (gives_empty a.file.now b (omega (arith, c.if-file-gt-MOST_FILE_BYTES.false)) (omega (arith, c.if-file-eq0.true))))
+    (rw c.refused-then-file-eq0.ensures
+    (gives_empty a.file.now b (omega (arith, c.if-file-gt-MOST_FILE_BYTES.false)) (omega (arith, c.if-file-eq0.true))))
 
 pub returns : goal.returns
 returns c =
