@@ -1,4 +1,6 @@
 // From a list of codes to its ribbon: contained codes dropped, faces put in order, the ribbon of that order written.
+#![tactic(auto)]
+
 ghost use Rattle.std.specs.Prelude.{◌≡◌};
 ghost use Rattle.lists.specs.Refusals.{whole};
 ghost use Rattle.parts.specs.Parts.{InRun, parts_of};
@@ -12,7 +14,7 @@ use parts::{cut, keep};
 use spelling::{measure, write_bands};
 
 // A ribbon's length and what it saves; or the refusal, 12 or 13.
-#[derive(Drop)]
+#[derive(Clone, Copy)]
 pub enum Laid {
     Refused(Refusal),
     Ribbon { bands: u32, saved: u32 },

@@ -1,4 +1,6 @@
 // What a list of codes or of names must meet as calls hand it over: the limits, and the numbers of refusals.
+#![tactic(auto)]
+
 mod limits; // of what is handed over
 mod numbers; // of refusals
 
@@ -11,7 +13,7 @@ pub use numbers::{
 };
 
 // A refusal: its number in document 01's table, and a row (0 where no row is meant).
-#[derive(Drop)]
+#[derive(Clone, Copy)]
 pub struct Refusal {
     pub number: u8,
     pub row: u32,

@@ -1,5 +1,7 @@
 // The calls for programs in C. A slice passes as a pointer and a count; an answer is plain data, since an enum cannot pass.
 // In each, refused is the refusal's number, and 0 where nothing is refused; what does not apply is 0, or false.
+#![tactic(auto)]
+
 ghost use Rattle.grammar.specs.Answers.{lent};
 ghost use Rattle.ribbons_c.specs.Calls.{TellsOrders, TellsLaid, TellsChecked, TellsSheet, TellsRibbon};
 
@@ -7,7 +9,7 @@ use ribbons::{Checked, Laid, Read, Wrote};
 
 // The refusal's row; how many codes there are, how many bands in them, and how many bytes of names.
 #[repr(C)]
-#[derive(Drop)]
+#[derive(Clone, Copy)]
 pub struct RibbonsOrders {
     pub refused: u8,
     pub row: u32,
@@ -18,7 +20,7 @@ pub struct RibbonsOrders {
 
 // The ribbon's length and the bands saved.
 #[repr(C)]
-#[derive(Drop)]
+#[derive(Clone, Copy)]
 pub struct RibbonsLaid {
     pub refused: u8,
     pub bands: u32,
@@ -27,7 +29,7 @@ pub struct RibbonsLaid {
 
 // Whether the ribbon holds every code; if not, the number of the first that is missing; if so, the difference.
 #[repr(C)]
-#[derive(Drop)]
+#[derive(Clone, Copy)]
 pub struct RibbonsChecked {
     pub refused: u8,
     pub held: bool,
@@ -37,7 +39,7 @@ pub struct RibbonsChecked {
 
 // The sheet's length and the bands that its ribbon saves.
 #[repr(C)]
-#[derive(Drop)]
+#[derive(Clone, Copy)]
 pub struct RibbonsSheet {
     pub refused: u8,
     pub bytes: u32,

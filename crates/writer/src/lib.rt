@@ -1,4 +1,6 @@
 // Writing the sheet of a list with names into a lent buffer.
+#![tactic(auto)]
+
 ghost use Rattle.std.specs.Prelude.{◌≡◌};
 ghost use Rattle.lists.specs.Refusals.{whole};
 ghost use Rattle.sheets.specs.Answers as a;
@@ -11,7 +13,7 @@ use places::find_places;
 use sheet_rows::{sheet_size, show_codes};
 
 // The sheet's length and what its ribbon saves; or the refusal, 12 or 13.
-#[derive(Drop)]
+#[derive(Clone, Copy)]
 pub enum Wrote {
     Refused(Refusal),
     Sheet { bytes: u32, saved: u32 },
