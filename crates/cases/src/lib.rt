@@ -1,4 +1,6 @@
 // The cases of the trials: the fields of those that are written out, and the lists of those that are generated.
+#![tactic(auto)]
+
 mod bands; // drawn and copied
 mod codes; // of a generated list
 mod draws;

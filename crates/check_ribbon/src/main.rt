@@ -1,5 +1,7 @@
 // The check program: reads the order list that its first argument names, then the ribbon file that its second names, and
 // writes what the check of that ribbon finds, or a refusal.
+#![tactic(auto)]
+
 use libc::STDOUT_FILENO;
 use ribbons::{MOST_FILE_BYTES, MOST_SUPPLIED_BANDS};
 

@@ -1,4 +1,6 @@
 // What rows are made of: names as fields, and numbers in decimal.
+#![tactic(auto)]
+
 mod numbers;
 mod quoting;
 

@@ -1,4 +1,6 @@
 // A whole input, or a file by name, read into a lent buffer.
+#![tactic(auto)]
+
 ghost use Rattle.io.specs.Counts.{IsPrefixLen};
 
 // The bytes of an open file, as many as the buffer takes; how many. A file that cannot be read to its end counts as one of

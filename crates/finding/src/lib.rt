@@ -1,4 +1,6 @@
 // The place of a word on a row, from a first start on.
+#![tactic(auto)]
+
 mod starts;
 
 pub use starts::find_place;

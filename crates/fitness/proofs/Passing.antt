@@ -60,7 +60,7 @@ module _ (asked : List (List ℕ) → Bool) {run ls : List ℕ} {from k : ℕ} (
     }
 
 -- Looking for a word.
-module _ {x run ls : List ℕ} {from k : ℕ} (p : Passing (is_in x) run ls from k) (h : k < length ls) {t : Bool}
+module _ (x : List ℕ) {run ls : List ℕ} {from k : ℕ} (p : Passing (is_in x) run ls from k) (h : k < length ls) {t : Bool}
     (e : t ≡ same x (up_to run from (from + get_or ls k 0))) where
   pub is_there : t ≡ true → is_in x (codes_in run ls) ≡ true
   is_there y = asked_next (is_in x) p h ∙ rw (← e, y)

@@ -1,4 +1,6 @@
 // The tests that decide whether a list of codes, or one of names, is fit to be taken: number 12.
+#![tactic(auto)]
+
 mod codes;
 mod names;
 mod texts;

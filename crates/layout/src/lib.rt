@@ -1,4 +1,6 @@
 // From a list of codes to its ribbon: contained codes dropped, faces put in order, the ribbon of that order written.
+#![tactic(auto)]
+
 ghost use Rattle.std.specs.Prelude.{◌≡◌};
 ghost use Rattle.lists.specs.Refusals.{whole};
 ghost use Rattle.parts.specs.Parts.{InRun, parts_of};

@@ -1,4 +1,6 @@
 // The lines that programs write.
+#![tactic(auto)]
+
 ghost use Rattle.std.specs.Prelude.{◌+◌, ◌≤◌, ◌≡◌, nat_abs, length};
 ghost use Rattle.lists.specs.Answers.{refusal_of};
 ghost use Rattle.lists.specs.Runs.{over};

@@ -1,4 +1,6 @@
 // What a list of codes or of names must meet as calls hand it over: the limits, and the numbers of refusals.
+#![tactic(auto)]
+
 mod limits; // of what is handed over
 mod numbers; // of refusals
 

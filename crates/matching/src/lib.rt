@@ -1,4 +1,6 @@
 // Words compared and written, each read as given or turned.
+#![tactic(auto)]
+
 mod bands;
 mod endings;
 mod falling;

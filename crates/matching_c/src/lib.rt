@@ -1,4 +1,6 @@
 // Routines on words for the bench, which times them alone. A slice passes as a pointer and a count.
+#![tactic(auto)]
+
 ghost use Rattle.std.specs.Prelude.{◌≡◌};
 ghost use Rattle.words.specs.Ways.{way_of};
 ghost use Rattle.words.specs.Overlap.{overlap};

@@ -1,4 +1,6 @@
 // Order lists as RFC 4180 files.
+#![tactic(auto)]
+
 ghost use Rattle.grammar.specs.Answers.{lent};
 ghost use Rattle.orders.specs.Calls.{ReadsOrders};
 

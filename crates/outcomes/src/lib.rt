@@ -1,4 +1,6 @@
 // The outcomes of calls as the trials tell them: answers, and lent place records before and after.
+#![tactic(auto)]
+
 mod answers; // of calls, said
 mod lent_records; // place records before and after a call
 mod recorded; // a check into lent records

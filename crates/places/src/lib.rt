@@ -1,4 +1,6 @@
 // Places of all codes on a row.
+#![tactic(auto)]
+
 ghost use Rattle.std.specs.Prelude.{◌≡◌, true, ◌≤◌, length};
 ghost use Rattle.lists.specs.Fit.{list_ok_lem};
 ghost use Rattle.places.specs.Calls.{FindsPlaces, blanks};

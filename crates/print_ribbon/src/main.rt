@@ -1,4 +1,6 @@
 // The ribbon program: reads an order list from standard input, and writes its ribbon or its refusal.
+#![tactic(auto)]
+
 use libc::{STDIN_FILENO, STDOUT_FILENO};
 use ribbons::{MOST_BANDS, MOST_FILE_BYTES};
 

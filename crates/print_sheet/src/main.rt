@@ -1,4 +1,6 @@
 // The sheet program: reads an order list from standard input, and writes its sheet or its refusal.
+#![tactic(auto)]
+
 use libc::{STDIN_FILENO, STDOUT_FILENO};
 use ribbons::{MOST_FILE_BYTES, MOST_SHEET_BYTES};
 

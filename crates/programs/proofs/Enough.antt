@@ -55,7 +55,8 @@ of_ribbon : (list file : List ℕ) → check_output_lem list (take 16387 file) �
 of_ribbon list file =
     let x = read_orders_lem list in
     ap (λ (t : List ℕ). written_for (λ _. t) x)
-    (same_of_start (λ s. checked_line x.codes (ribbon_of_lem s)) 16387 (refused_line_lem (whole long_ribbon_number)) (long_ribbon x.codes) file)
+    (same_of_start (λ s. checked_line x.codes (ribbon_of_lem s)) 16387 (refused_line_lem (whole long_ribbon_number))
+    (long_ribbon x.codes) file)
 
 pub reads_enough : ReadsEnough
 reads_enough = record { of_list_file = of_list_file; of_ribbon = of_ribbon }

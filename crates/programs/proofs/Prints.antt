@@ -35,8 +35,8 @@ use Rattle.checking.proofs.Answers.{difference, difference_one}
 use Rattle.sheets.specs.Sheet.{SheetFor, sheet_text_lem}
 use Rattle.sheets.proofs.Decimal.{digits_ours, digits_one}
 use Rattle.sheets.proofs.Sheet.{sheet_ours, sheet_only}
-use Rattle.programs.specs.Programs.{refused_line_lem, written_for, of_list, ribbon_output_lem, sheet_output_lem, signed, found_line, checked_line}
-use Rattle.programs.specs.Programs.{check_output_lem}
+use Rattle.programs.specs.Programs.{refused_line_lem, written_for, of_list, signed, found_line, checked_line}
+use Rattle.programs.specs.Programs.{ribbon_output_lem, sheet_output_lem, check_output_lem}
 use Rattle.programs.specs.Prints as p
 
 -- lines of refusals
@@ -77,7 +77,8 @@ ribbon_line_only (p.ribbon_line l) = ap (λ (r : List ℕ). r ++ line_break) (la
 
 pub ribbon_program_only : (program : List ℕ → List ℕ) → p.RibbonProgram program → (list : List ℕ)
     → program list ≡ ribbon_output_lem list
-ribbon_program_only program h list = prints_only p.RibbonLine (λ x. ribbon_for turned x.codes ++ line_break) list (λ ns cs t x. ribbon_line_only x) (h list)
+ribbon_program_only program h list =
+    prints_only p.RibbonLine (λ x. ribbon_for turned x.codes ++ line_break) list (λ ns cs t x. ribbon_line_only x) (h list)
 
 -- names of an accepted list are printed, and there is one for each code
 pub sheet_program_ours : p.SheetProgram sheet_output_lem
@@ -94,7 +95,8 @@ sheet_rows_only {names} {codes} {t} (p.sheet_rows l s) =
 
 pub sheet_program_only : (program : List ℕ → List ℕ) → p.SheetProgram program → (list : List ℕ)
     → program list ≡ sheet_output_lem list
-sheet_program_only program h list = prints_only p.SheetRows (λ x. sheet_text_lem x.names x.codes) list (λ ns cs t x. sheet_rows_only x) (h list)
+sheet_program_only program h list =
+    prints_only p.SheetRows (λ x. sheet_text_lem x.names x.codes) list (λ ns cs t x. sheet_rows_only x) (h list)
 
 -- the difference, and the line of a check by its tests: of the ribbon's length and bands, and of missing codes
 pub signed_ours : (d : ℤ) → p.Signed d (signed d)

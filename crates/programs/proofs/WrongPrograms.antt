@@ -18,7 +18,8 @@ use Rattle.grammar.specs.RibbonFile.{ribbon_of_lem}
 use Rattle.greedy.specs.Layout.{ribbon_for}
 use Rattle.checking.specs.Check.{none_missing, missing, missing_on}
 use Rattle.sheets.specs.Sheet.{row_text, sheet_heading}
-use Rattle.programs.specs.Programs.{of_list, refused_line_lem, ribbon_output_lem, sheet_output_lem, found_line, checked_line, check_output_lem}
+use Rattle.programs.specs.Programs.{of_list, refused_line_lem, found_line, checked_line}
+use Rattle.programs.specs.Programs.{ribbon_output_lem, sheet_output_lem, check_output_lem}
 use Rattle.programs.specs.Prints.{RibbonProgram, SheetProgram, CheckProgram}
 use Rattle.programs.proofs.Prints.{ribbon_program_only, sheet_program_only, check_program_only}
 

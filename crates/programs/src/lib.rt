@@ -1,1 +1,2 @@
 // What the three programs write: the claims on it, and ours. No routine.
+#![tactic(auto)]

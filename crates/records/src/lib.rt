@@ -1,4 +1,6 @@
 // The caller's slice of place records is filled.
+#![tactic(auto)]
+
 ghost use Rattle.std.specs.Prelude.{◌≤◌, ◌≡◌, length, take};
 ghost use Rattle.lists.specs.Runs.{over};
 ghost use Rattle.verdicts.specs.Calls.{ChecksRibbon};

@@ -1,4 +1,6 @@
 // The crate that others link: the public calls under one roof, and for each program the call that computes its output.
+#![tactic(auto)]
+
 mod check_printing; // the check program's output
 mod ribbon_printing; // the ribbon program's
 mod sheet_printing; // the sheet program's

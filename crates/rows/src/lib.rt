@@ -1,4 +1,6 @@
 // One row of an RFC 4180 file, and the ribbon of a ribbon file.
+#![tactic(auto)]
+
 mod ribbon_file;
 mod scan; // byte by byte
 

@@ -1,5 +1,7 @@
 // The rows of a sheet, one for each listed code, with its name, way, start, bands and places: what they show, their length, and
 // each of them written.
+#![tactic(auto)]
+
 mod rows;
 mod showing;
 mod sizes;

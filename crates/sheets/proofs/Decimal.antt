@@ -41,7 +41,7 @@ from_only (one_more {v} {d} {t} p h s) (suc fuel) l =
     let first : (10 * v + d) / 10 ≡ v = omega arith in
     let last : (10 * v + d) % 10 ≡ d = omega arith in
     let two : ltb (10 * v + d) 10 ≡ false = refuses (is_lt (10 * v + d) 10) (λ m. omega arith) in
-    cc (from_only h fuel (omega arith))
+    cc (from_only {v = v} h fuel (omega arith))
 
 pub digits_one : {v : ℕ} {s t : List ℕ} → Digits v s → Digits v t → s ≡ t
 digits_one {v} d e = sym (from_only d (suc v) (omega arith)) ∙ from_only e (suc v) (omega arith)

@@ -48,7 +48,7 @@ row_at field way start bands places rest f (w, s, b) p =
     }
 
 -- row after row
-rows_back : {names codes : List (List ℕ)} {ribbon t : List ℕ} → RowsFor ribbon names codes t → Each (Each Printed) names
+rows_back : {ribbon : List ℕ} {names codes : List (List ℕ)} {t : List ℕ} → RowsFor ribbon names codes t → Each (Each Printed) names
     → Each (Each Band) codes → (rows : List (List (List ℕ))) × FieldsFor ribbon names codes rows × ReadsAs t rows
 rows_back none n c = ([], no_codes, at_end)
 rows_back (next {name} {rows} (row_for {field} {way} {start} {bands} {places} w p k) rs) (n, ns) (c, cs) =

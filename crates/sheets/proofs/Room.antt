@@ -74,7 +74,7 @@ row_long (row_for {field} {way} {start} {bands} {places} w p k) n c m =
     let q = place_long p c m in
     simp length-append (omega (arith, written_long w, n.1, q.0, q.1, q.2, places_long k c m))
 
-rows_long : {names codes : List (List ℕ)} {ribbon t : List ℕ} → RowsFor ribbon names codes t → Each NameRule names
+rows_long : {ribbon : List ℕ} {names codes : List (List ℕ)} {t : List ℕ} → RowsFor ribbon names codes t → Each NameRule names
     → Each CodeRule codes → length ribbon ≤ 8192 → length t ≤ 134 * length codes
 rows_long none n c m = omega arith
 rows_long (next {row} {rows} r rs) (n, ns) (c, cs) m =

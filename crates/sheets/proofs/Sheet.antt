@@ -88,7 +88,7 @@ rows_ours (n ∷ ns) [] ribbon e p s = absurd (omega arith)
 rows_ours (n ∷ ns) (c ∷ cs) ribbon e (p, ps) (s, ss) =
     next (row_ours n c ribbon p s) (rows_ours ns cs ribbon (omega arith) ps ss)
 
-rows_only : {names codes : List (List ℕ)} {ribbon t : List ℕ} → RowsFor ribbon names codes t
+rows_only : {ribbon : List ℕ} {names codes : List (List ℕ)} {t : List ℕ} → RowsFor ribbon names codes t
     → t ≡ code_rows names codes ribbon
 rows_only none = refl
 rows_only {ribbon} (next {name} {code} r rs) =

@@ -1,4 +1,6 @@
 // What an order of faces spells, whatever the order: the ribbon's length, what it saves, its bands.
+#![tactic(auto)]
+
 mod writing;
 
 pub use writing::{measure, write_bands};

@@ -1,4 +1,6 @@
 // What the trials tell of a case: lines that go into a checksum, and are printed where a case is shown in full.
+#![tactic(auto)]
+
 mod forms; // of lines
 mod lent; // buffers before and after a call
 mod plain; // bytes and numbers, said

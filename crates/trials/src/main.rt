@@ -1,6 +1,8 @@
 // The trials: reads a file of cases from standard input, runs each through the public calls, and writes a line for each group
 // with a count and a checksum over all that the calls did. The argument `first` has the texts of each group's first case
 // printed too, `all` those of all cases.
+#![tactic(auto)]
+
 mod case_lines; // cases written out
 mod file_case;
 mod groups; // the file of cases, line by line

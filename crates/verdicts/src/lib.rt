@@ -1,4 +1,6 @@
 // Checking a supplied ribbon: held or missing, with the records by value.
+#![tactic(auto)]
+
 ghost use Rattle.std.specs.Prelude.{◌≡◌};
 ghost use Rattle.lists.specs.Refusals.{whole};
 ghost use Rattle.checking.specs.Answers as a;

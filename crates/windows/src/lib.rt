@@ -1,4 +1,6 @@
 // Windows of bands on a row: starts at which a word can stand.
+#![tactic(auto)]
+
 mod fitting;
 
 pub use fitting::{Sums, Window, longer, next_fit, sums_of, window_at};

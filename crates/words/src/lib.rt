@@ -1,1 +1,2 @@
 // Words: rows of bands (strings), with their definitions and laws. No routine.
+#![tactic(auto)]

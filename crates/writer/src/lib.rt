@@ -1,4 +1,6 @@
 // Writing the sheet of a list with names into a lent buffer.
+#![tactic(auto)]
+
 ghost use Rattle.std.specs.Prelude.{◌≡◌};
 ghost use Rattle.lists.specs.Refusals.{whole};
 ghost use Rattle.sheets.specs.Answers as a;

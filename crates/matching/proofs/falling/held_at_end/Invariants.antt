@@ -1,0 +1,16 @@
+-- `held_at_end`: the invariant is what a pass along the last k bands holds after i of them.
+use borrow.Author.Rules.{rules}
+use native.Mathlib.Omega.{arith}
+use mathlib.Core.Path.{◌≡◌, refl}
+use Prim.Native.Nat.{◌-◌, ◌≤◌}
+use lib.ListN.{length, drop}
+use Rattle.words.specs.Ways.{way_of}
+use Rattle.words.proofs.Ways.{way_size}
+use Rattle.matching.proofs.Passing.{Passed, passed_none, passed_held, passed_row, passed_next, passed_more, follows_from}
+use Rattle.matching.proofs.falling.held_at_end.Given as goal
+
+abbrev pub invariant-loop-i : goal.invariant-loop-i
+invariant-loop-i l = (l.i ≤ l.k) × (length l.falls ≡ 65) × Passed (drop l.start (way_of l.a_turned l.a)) (way_of l.b_turned l.b) l.falls l.filled l.m l.i
+
+abbrev pub decreases-loop-i : goal.decreases-loop-i
+decreases-loop-i l = l.k - l.i
