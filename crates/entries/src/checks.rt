@@ -8,7 +8,7 @@ ghost use Rattle.entries.specs.Gathering.{fields_fault_lem, ChecksRow};
 use rows::read_row;
 
 // A row with its fault (0 for none), the lengths of its two fields, and where the next row begins.
-#[derive(Drop)]
+#[derive(Clone, Copy)]
 pub struct Checked {
     pub fault: u8,
     pub name: usize,

@@ -6,7 +6,7 @@ mod starts;
 pub use starts::find_place;
 
 // As given, turned or either way at a start, or no place.
-#[derive(Drop)]
+#[derive(Clone, Copy)]
 pub enum Found {
     Given(usize),
     Turned(usize),

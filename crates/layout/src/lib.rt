@@ -14,7 +14,7 @@ use parts::{cut, keep};
 use spelling::{measure, write_bands};
 
 // A ribbon's length and what it saves; or the refusal, 12 or 13.
-#[derive(Drop)]
+#[derive(Clone, Copy)]
 pub enum Laid {
     Refused(Refusal),
     Ribbon { bands: u32, saved: u32 },

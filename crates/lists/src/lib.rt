@@ -13,7 +13,7 @@ pub use numbers::{
 };
 
 // A refusal: its number in document 01's table, and a row (0 where no row is meant).
-#[derive(Drop)]
+#[derive(Clone, Copy)]
 pub struct Refusal {
     pub number: u8,
     pub row: u32,

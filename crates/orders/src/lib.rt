@@ -12,7 +12,7 @@ use lists::{MOST_CODES, MOST_FILE_BYTES, Refusal};
 
 // What reading an order list answers: refused; or how many codes there are, how many bands in them, and how many bytes
 // of names.
-#[derive(Drop)]
+#[derive(Clone, Copy)]
 pub enum Read {
     Refused(Refusal),
     Orders { codes: u32, bands: u32, names: u32 },

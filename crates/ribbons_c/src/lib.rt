@@ -9,7 +9,7 @@ use ribbons::{Checked, Laid, Read, Wrote};
 
 // The refusal's row; how many codes there are, how many bands in them, and how many bytes of names.
 #[repr(C)]
-#[derive(Drop)]
+#[derive(Clone, Copy)]
 pub struct RibbonsOrders {
     pub refused: u8,
     pub row: u32,
@@ -20,7 +20,7 @@ pub struct RibbonsOrders {
 
 // The ribbon's length and the bands saved.
 #[repr(C)]
-#[derive(Drop)]
+#[derive(Clone, Copy)]
 pub struct RibbonsLaid {
     pub refused: u8,
     pub bands: u32,
@@ -29,7 +29,7 @@ pub struct RibbonsLaid {
 
 // Whether the ribbon holds every code; if not, the number of the first that is missing; if so, the difference.
 #[repr(C)]
-#[derive(Drop)]
+#[derive(Clone, Copy)]
 pub struct RibbonsChecked {
     pub refused: u8,
     pub held: bool,
@@ -39,7 +39,7 @@ pub struct RibbonsChecked {
 
 // The sheet's length and the bands that its ribbon saves.
 #[repr(C)]
-#[derive(Drop)]
+#[derive(Clone, Copy)]
 pub struct RibbonsSheet {
     pub refused: u8,
     pub bytes: u32,

@@ -7,7 +7,7 @@ ghost use Rattle.rows.specs.Taken.{mode_of, is_closed, Takes, Appends};
 
 // A row as read: whether it keeps the grammar, how many fields it has, the lengths of the contents of the first two, and
 // where the next row begins.
-#[derive(Drop)]
+#[derive(Clone, Copy)]
 pub struct RowRead {
     pub good: bool,
     pub fields: usize,
@@ -17,7 +17,7 @@ pub struct RowRead {
 }
 
 // Where the scan stands: a field begins, in an unquoted one, after a closing quote, or inside quotes.
-#[derive(Drop)]
+#[derive(Clone, Copy)]
 enum Mode {
     Start,
     Text,
@@ -27,7 +27,7 @@ enum Mode {
 
 // What a byte does: it breaks the grammar, ends the field, ends the row with the LF after it, or leads to a mode, kept
 // in the field's content or not.
-#[derive(Drop)]
+#[derive(Clone, Copy)]
 enum Step {
     Broken,
     Comma,

@@ -12,7 +12,7 @@ pub use showing::show_codes;
 pub use sizes::sheet_size;
 
 // What a row shows of where a code stands: its way with the start, and the number of places.
-#[derive(Drop)]
+#[derive(Clone, Copy)]
 pub struct Shown {
     pub way: Way,
     pub places: u32,

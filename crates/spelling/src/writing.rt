@@ -7,7 +7,7 @@ ghost use Rattle.spelling.specs.Ribbons.{InOrder, part_skip, part_ribbon, Measur
 use parts::part;
 
 // A ribbon's length and what it saves.
-#[derive(Drop)]
+#[derive(Clone, Copy)]
 pub struct Sums {
     pub bands: usize,
     pub saved: usize,

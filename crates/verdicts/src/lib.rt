@@ -14,7 +14,7 @@ use places::{Place, blank, find_places};
 use supplied::{computed_length, difference, supplied_fault};
 
 // Held with the supplied length minus the computed one; missing the code of a number; or the refusal, 12, 15, 8 or 13.
-#[derive(Drop)]
+#[derive(Clone, Copy)]
 pub enum Checked {
     Refused(Refusal),
     Missing(u32),

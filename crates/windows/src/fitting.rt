@@ -11,14 +11,14 @@ ghost use Rattle.windows.specs.Windows.{Windowed, Skipped};
 use matching::band_at;
 
 // What the bands of a word add up to, as given and turned.
-#[derive(Drop)]
+#[derive(Clone, Copy)]
 pub struct Sums {
     pub given: usize,
     pub turned: usize,
 }
 
 // As many bands as a word has, from a start on, and what they add up to.
-#[derive(Drop)]
+#[derive(Clone, Copy)]
 pub struct Window {
     pub start: usize,
     pub sum: usize,

@@ -13,7 +13,7 @@ use places::find_places;
 use sheet_rows::{sheet_size, show_codes};
 
 // The sheet's length and what its ribbon saves; or the refusal, 12 or 13.
-#[derive(Drop)]
+#[derive(Clone, Copy)]
 pub enum Wrote {
     Refused(Refusal),
     Sheet { bytes: u32, saved: u32 },

@@ -1,0 +1,15 @@
+-- `side` compares band by band. The invariant: the bands passed are alike, so what is left of the two words decides.
+use borrow.Author.Rules.{rules}
+use native.Mathlib.Omega.{arith}
+use mathlib.Core.Path.{sym}
+use Prim.Native.Nat.{◌-◌}
+use Rattle.words.specs.Ways.{way_of}
+use Rattle.words.proofs.Ways.{way_size}
+use Rattle.sorting.proofs.Sides.{Siding, siding_none, siding_short, siding_less, siding_more, siding_same, siding_all}
+use Rattle.sorting.proofs.compare.side.Given as goal
+
+abbrev pub invariant-loop-i : goal.invariant-loop-i
+invariant-loop-i l = Siding (way_of l.turned l.c) (way_of l.other l.d) l.start l.o l.i
+
+abbrev pub decreases-loop-i : goal.decreases-loop-i
+decreases-loop-i l = l.o - l.i
