@@ -1,6 +1,5 @@
 -- `lay_order`: by its sums the ribbon is too long for the buffer, or it is written.
 use Rattle.layout.proofs.Stages.{gives_short, gives_ribbon}
-use borrow.Author.Rules.{rules}
 use Rattle.layout.proofs.lay_order.Goals as goal
 
 pub returns-then-ribbon-long : goal.returns-then-ribbon-long

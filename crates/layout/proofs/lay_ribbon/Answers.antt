@@ -1,8 +1,6 @@
 -- `lay_ribbon`: a list that passes the test is fit, so its codes are cut from the run, and the outcome is that of the kept
 -- ones; what the outcome means follows from it.
 use mathlib.Core.Path.{sym, ap, ◌∙◌}
-use borrow.Author.Tests.{not-true, not-false}
-use borrow.Author.Rules.{rules}
 use Rattle.layout.proofs.Calls.{lays_ribbon}
 use Rattle.words.specs.Turn.{turned}
 use Rattle.words.proofs.Deciding.{holds}

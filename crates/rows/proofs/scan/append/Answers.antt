@@ -1,6 +1,5 @@
 -- `orders::rows::append` meets its contract: the test says whose byte it is.
 use mathlib.Core.Path.{refl}
-use borrow.Author.Rules.{rules}
 use Rattle.rows.proofs.scan.append.Goals as goal
 
 pub returns-then-k-n : goal.returns-then-k-n

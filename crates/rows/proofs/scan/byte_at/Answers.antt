@@ -1,6 +1,5 @@
 -- `orders::rows::byte_at` meets its contract: past the end a list gives the value asked for.
 use mathlib.Core.Path.{sym}
-use borrow.Author.Rules.{rules}
 use lib.ListN.{get_or-eq_default}
 use Rattle.rows.proofs.scan.byte_at.Goals as goal
 

@@ -1,10 +1,8 @@
 -- `orders::rows::read_row` meets its contract. The invariant is `Scanning`: the rest of the scan gives the row, and each
 -- buffer has what has been read of its field. Each arm cites the law for what the byte does.
-use borrow.Author.Rules.{rules}
 use Prim.Native.Nat.{◌-◌}
 use lib.ListN.{length}
-use Rattle.rows.proofs.Scanning.{Scanning, Taking, begun, at_end, comma_next, skipped, kept_byte}
-use Rattle.rows.proofs.Scanning.{row_breaks, row_ends}
+use Rattle.rows.proofs.Scanning.{Scanning}
 use Rattle.rows.proofs.scan.read_row.Given as goal
 
 abbrev pub invariant-loop-i : goal.invariant-loop-i
