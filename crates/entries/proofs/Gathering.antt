@@ -125,8 +125,8 @@ module _ {x : Orders} {file bands ls names sizes : List ℕ} {at count bmark nma
 
     module _ (z : r.fault ≡ 0) where
       -- its fields lie behind the marks
-      name_in : nmark + r.name ≤ length names
-      name_in = let found = h.found z in omega (arith, found.name_fits, found.within, g.name_room)
+      name_in_lem : nmark + r.name ≤ length names
+      name_in_lem = let found = h.found z in omega (arith, found.name_fits, found.within, g.name_room)
 
       code_in_lem : bmark + r.code ≤ length bands
       code_in_lem = let found = h.found z in omega (arith, found.code_fits, found.within, g.code_room)
@@ -134,7 +134,7 @@ module _ {x : Orders} {file bands ls names sizes : List ℕ} {at count bmark nma
       name_size : length (name_in (first_row here)) ≡ r.name
       name_size =
           ap length (h.found z).name_is
-          ∙ length_part names' nmark r.name (omega (arith, name_in, h.names_kept.as_long))
+          ∙ length_part names' nmark r.name (omega (arith, name_in_lem, h.names_kept.as_long))
 
       code_size : length (code_in (first_row here)) ≡ r.code
       code_size =
@@ -171,7 +171,7 @@ module _ {x : Orders} {file bands ls names sizes : List ℕ} {at count bmark nma
                 fuel = f;
                 goes = rw (found.rest, k) (sym on ∙ y);
                 enough = omega (arith, found.onward left, found.within);
-                names_filed = filed_add g.names_filed r.name h.names_kept name_in found.name_is n;
+                names_filed = filed_add g.names_filed r.name h.names_kept name_in_lem found.name_is n;
                 codes_filed = filed_add g.codes_filed r.code h.bands_kept code_in_lem found.code_is c;
                 few = omega arith;
                 within = found.within;
