@@ -10,7 +10,8 @@ use lib.Dec.{eqb, ltb, leb}
 use lib.ListN.{length, drop}
 use borrow.Author.Tests.{eq-eqb, ne_eqb}
 use Rattle.words.specs.Tests.{same}
-use Rattle.lists.specs.Refusals.{broken_row_number, wrong_width_number, wrong_heading_number, bad_name_number, no_bands_number, long_code_number, unknown_colour_number}
+use Rattle.lists.specs.Refusals.{broken_row_number, wrong_width_number, wrong_heading_number, bad_name_number}
+use Rattle.lists.specs.Refusals.{no_bands_number, long_code_number, unknown_colour_number}
 use Rattle.lists.specs.Refusals.{name_taken_number, list_full_number, when, first_of}
 use Rattle.lists.specs.Fit.{is_in, all_bands_lem, name_ok_lem}
 use Rattle.grammar.specs.Files.{word_name, word_code}
