@@ -1,5 +1,5 @@
-/* Test ribbons: the proved library, for programs in C and C++. Link the archive target/staticlib/libribbons_c.a, which
-   `rt staticlib ribbons_c` writes; it needs the C library alone.
+/* Test ribbons: the proved library, for programs in C and C++. Link the archive crates/ribbons_c/out/libribbons_c.a,
+   which `rt lib` writes in crates/ribbons_c; it needs the C library alone.
 
    A band is a byte A to Z. A list is one run of bands and a length for each code, codes numbered from 0 in list order;
    where names come with it, they are one run of bytes and a size for each. A ribbon is a row of bands on which each code

@@ -1,4 +1,4 @@
-//! The proved library for programs in Rust: its calls with slices. Link the archive that `rt staticlib ribbons_c` writes.
+//! The proved library for programs in Rust: its calls with slices. Link the archive that `rt lib` writes in crates/ribbons_c.
 //! What each call gives and refuses stands in `include/ribbons.h`.
 
 // A program need not use all of it.

@@ -12,7 +12,7 @@ pub const STARTS: usize = MOST_CODES;
 
 // A list in the making: the state of the draws, the family's first letter, how many codes are due, the letters that bands are
 // drawn from, and the length of the word that codes are parts of.
-#[derive(Drop)]
+#[derive(Clone, Copy)]
 pub struct Family {
     pub x: usize,
     pub letter: u8,

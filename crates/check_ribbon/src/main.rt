@@ -2,7 +2,6 @@
 // writes what the check of that ribbon finds, or a refusal.
 #![tactic(auto)]
 
-use libc::STDOUT_FILENO;
 use ribbons::{MOST_FILE_BYTES, MOST_SUPPLIED_BANDS};
 
 // one byte more shows that a file is too long
@@ -11,12 +10,13 @@ const LIST_ROOM: usize = MOST_FILE_BYTES + 1;
 // and one more than CR LF, which is no part of the ribbon
 const RIBBON_ROOM: usize = MOST_SUPPLIED_BANDS + 3;
 
-fn main() {
+fn main(rt: HostRuntime) {
     let mut list = [0u8; LIST_ROOM];
-    let n = files::read_named(1, &mut list);
+    let n = files::read_named(&rt, 1, &mut list);
     let mut ribbon = [0u8; RIBBON_ROOM];
-    let m = files::read_named(2, &mut ribbon);
+    let m = files::read_named(&rt, 2, &mut ribbon);
     let mut out = [0u8; 32];
     let k = ribbons::check_output(&list[..n], &ribbon[..m], &mut out);
-    io::write_all(STDOUT_FILENO, &out[..k]);
+    // a failed write is passed over: ./run says where nothing came out
+    let _ = rt.write_all(&out[..k]);
 }

@@ -43,7 +43,7 @@ one_at_most false = omega arith
 pub counting_short : (turn : List ℕ → List ℕ) (c s : List ℕ) → length (turn c) ≡ length c → length s < length c
     → 0 ≡ count_of turn c s
 counting_short turn c s e l =
-    count_is (record { starts = []; in_order = tt; only = λ i x. absurd x; all = λ i x. no_room x; size = refl })
+    count_is {turn = turn} (record { starts = []; in_order = tt; only = λ i x. absurd x; all = λ i x. no_room x; size = refl })
   where
     no_room : {i : ℕ} → StandsHere turn c s i → In i []
     no_room (inl x) = absurd (omega (arith, end_within x))

@@ -3,7 +3,7 @@
 use mathlib.Core.Path.{◌≡◌, refl}
 use mathlib.Core.List.{[], ◌∷◌}
 use Prim.Native.Nat.{ℕ}
-use Rattle.lists.specs.Refusals.{Refusal, whole, long_file_number, broken_row_number, wrong_width_number, wrong_heading_number, bad_name_number, no_bands_number, long_code_number}
+use Rattle.lists.specs.Refusals.{whole, long_file_number, broken_row_number, wrong_width_number, wrong_heading_number, bad_name_number, no_bands_number, long_code_number}
 use Rattle.lists.specs.Refusals.{unknown_colour_number, name_taken_number, list_full_number, empty_list_number, false_list_number, short_buffer_number, long_ribbon_number}
 use Rattle.lists.specs.Answers.{refusal_of}
 use Rattle.lists.specs.declared.Refusal as declared

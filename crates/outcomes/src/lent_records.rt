@@ -89,24 +89,24 @@ fn record_at(places: [Place; MOST_RECORDS], i: usize) -> Numbers {
 }
 
 // A record is said.
-fn say_record(t: Tally, p: Numbers) -> Tally {
+fn say_record(rt: &impl Print, t: Tally, p: Numbers) -> Tally {
     if p.way == 0 {
-        return say_form(t, b"# given #", p.code, p.start, 0);
+        return say_form(rt, t, b"# given #", p.code, p.start, 0);
     }
     if p.way == 1 {
-        return say_form(t, b"# turned #", p.code, p.start, 0);
+        return say_form(rt, t, b"# turned #", p.code, p.start, 0);
     }
-    say_form(t, b"# either #", p.code, p.start, 0)
+    say_form(rt, t, b"# either #", p.code, p.start, 0)
 }
 
 // The first records, so many, with a semicolon between.
-fn say_records(t: Tally, places: [Place; MOST_RECORDS], n: usize) -> Tally {
+fn say_records(rt: &impl Print, t: Tally, places: [Place; MOST_RECORDS], n: usize) -> Tally {
     if n == 0 {
         return t;
     }
-    let mut told = say_record(t, record_at(places, 0));
+    let mut told = say_record(rt, t, record_at(places, 0));
     for i in 1..n {
-        told = say_record(say(told, b';'), record_at(places, i));
+        told = say_record(rt, say(rt, told, b';'), record_at(places, i));
     }
     told
 }
@@ -147,6 +147,7 @@ fn rest_of_records(
 
 // What is told of so many lent records of which the first ones are the result.
 pub fn tell_records(
+    rt: &impl Print,
     t: Tally,
     form: &[u8],
     before: [Place; MOST_RECORDS],
@@ -154,8 +155,8 @@ pub fn tell_records(
     room: usize,
     res: usize,
 ) -> Tally {
-    let said = say_records(say_form(t, form, room as u64, 0, 0), after, res);
-    let counted = say_kept(said, rest_of_records(said, before, after, res, room));
+    let said = say_records(rt, say_form(rt, t, form, room as u64, 0, 0), after, res);
+    let counted = say_kept(rt, said, rest_of_records(said, before, after, res, room));
     let rest = rest_of_records(counted, before, after, res, room);
     rest.tally
 }

@@ -20,20 +20,20 @@ fn number(i: usize, a: u64, b: u64, c: u64) -> u64 {
 }
 
 // A byte of a form, or the number that stands for it.
-fn say_sign(t: Tally, sign: u8, n: u64) -> Tally {
+fn say_sign(rt: &impl Print, t: Tally, sign: u8, n: u64) -> Tally {
     if sign == b'#' {
-        return say_number(t, n);
+        return say_number(rt, t, n);
     }
-    say(t, sign)
+    say(rt, t, sign)
 }
 
 // A form is said, with as many of the three numbers as it has `#`.
-pub fn say_form(t: Tally, form: &[u8], a: u64, b: u64, c: u64) -> Tally {
+pub fn say_form(rt: &impl Print, t: Tally, form: &[u8], a: u64, b: u64, c: u64) -> Tally {
     let mut told = t;
     let mut next = 0;
     for i in 0..form.len() {
         let sign = look(form, i);
-        told = say_sign(told, sign, number(next, a, b, c));
+        told = say_sign(rt, told, sign, number(next, a, b, c));
         next = plus(next, one_if(sign == b'#'));
     }
     told

@@ -91,25 +91,25 @@ fn rest_of_numbers(t: Tally, s: &[u16], from: usize) -> Rest {
 }
 
 // The end of the line of a buffer.
-pub fn say_kept(t: Tally, r: Rest) -> Tally {
-    say_form(t, b",kept,#\n", r.kept as u64, 0, 0)
+pub fn say_kept(rt: &impl Print, t: Tally, r: Rest) -> Tally {
+    say_form(rt, t, b",kept,#\n", r.kept as u64, 0, 0)
 }
 
 // What is told of a buffer of bytes of which the first ones, so many, are the result. The rest is passed twice: what is
 // counted is said before any of it is fed.
-pub fn tell_bytes(t: Tally, form: &[u8], buffer: &[u8], res: usize) -> Tally {
-    let begun = say_form(t, form, buffer.len() as u64, 0, 0);
-    let said = say_bytes(begun, front(buffer, res));
-    let counted = say_kept(said, rest_of_bytes(said, buffer, res));
+pub fn tell_bytes(rt: &impl Print, t: Tally, form: &[u8], buffer: &[u8], res: usize) -> Tally {
+    let begun = say_form(rt, t, form, buffer.len() as u64, 0, 0);
+    let said = say_bytes(rt, begun, front(buffer, res));
+    let counted = say_kept(rt, said, rest_of_bytes(said, buffer, res));
     let rest = rest_of_bytes(counted, buffer, res);
     rest.tally
 }
 
 // What is told of a buffer of numbers.
-pub fn tell_numbers(t: Tally, form: &[u8], buffer: &[u16], res: usize) -> Tally {
-    let begun = say_form(t, form, buffer.len() as u64, 0, 0);
-    let said = say_numbers(begun, front_numbers(buffer, res));
-    let counted = say_kept(said, rest_of_numbers(said, buffer, res));
+pub fn tell_numbers(rt: &impl Print, t: Tally, form: &[u8], buffer: &[u16], res: usize) -> Tally {
+    let begun = say_form(rt, t, form, buffer.len() as u64, 0, 0);
+    let said = say_numbers(rt, begun, front_numbers(buffer, res));
+    let counted = say_kept(rt, said, rest_of_numbers(said, buffer, res));
     let rest = rest_of_numbers(counted, buffer, res);
     rest.tally
 }

@@ -1,6 +1,6 @@
 // The checksum over the texts of cases. Where a case is printed in full, what is said is printed as well.
 use cases::look;
-use libc::STDOUT_FILENO;
+use itoa::Buffer;
 
 // the checksum's modulus and factor, both prime
 const MODULUS: u64 = 4294967291;
@@ -8,7 +8,7 @@ const MODULUS: u64 = 4294967291;
 const FACTOR: u64 = 16777619;
 
 // The checksum so far, and whether what is said is printed.
-#[derive(Drop)]
+#[derive(Clone, Copy)]
 pub struct Tally {
     pub sum: u64,
     pub loud: bool,
@@ -22,10 +22,10 @@ pub fn feed(t: Tally, n: u64) -> Tally {
     }
 }
 
-// A word is said, byte by byte.
-pub fn say_word(t: Tally, word: &[u8]) -> Tally {
+// A word is said, byte by byte; one that cannot be printed still goes into the checksum.
+pub fn say_word(rt: &impl Print, t: Tally, word: &[u8]) -> Tally {
     if t.loud {
-        io::write_all(STDOUT_FILENO, word);
+        let _ = rt.write_all(word);
     }
     let mut told = t;
     for i in 0..word.len() {
@@ -35,14 +35,13 @@ pub fn say_word(t: Tally, word: &[u8]) -> Tally {
 }
 
 // A byte is said.
-pub fn say(t: Tally, b: u8) -> Tally {
+pub fn say(rt: &impl Print, t: Tally, b: u8) -> Tally {
     let word = [b];
-    say_word(t, &word)
+    say_word(rt, t, &word)
 }
 
 // A number is said in decimal.
-pub fn say_number(t: Tally, n: u64) -> Tally {
-    let mut digits = [0u8; 20];
-    let k = io::decimal(n, &mut digits);
-    say_word(t, &digits[..k])
+pub fn say_number(rt: &impl Print, t: Tally, n: u64) -> Tally {
+    let mut digits = Buffer::new();
+    say_word(rt, t, digits.format(n).as_bytes())
 }

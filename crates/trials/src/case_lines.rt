@@ -6,10 +6,11 @@ use cases::{bytes_in, numbers_in};
 use telling::{MOST_BYTES, MOST_NUMBERS, Tally};
 
 // The case of a line `file FILE ROOMS`.
-pub fn file_line(t: Tally, k: u64, line: &[u8]) -> Tally {
+pub fn file_line(rt: &impl Print, t: Tally, k: u64, line: &[u8]) -> Tally {
     let mut file = [0u8; MOST_BYTES];
     let mut rooms = [0u16; MOST_NUMBERS];
     run_file(
+        rt,
         t,
         k,
         bytes_in(line, 1, &mut file),
@@ -18,7 +19,7 @@ pub fn file_line(t: Tally, k: u64, line: &[u8]) -> Tally {
 }
 
 // The case of a line `list BANDS LENGTHS NAMES SIZES RIBBON ROOMS`.
-pub fn list_line(t: Tally, k: u64, line: &[u8]) -> Tally {
+pub fn list_line(rt: &impl Print, t: Tally, k: u64, line: &[u8]) -> Tally {
     let mut bands = [0u8; MOST_BYTES];
     let mut lengths = [0u16; MOST_NUMBERS];
     let mut names = [0u8; MOST_BYTES];
@@ -26,6 +27,7 @@ pub fn list_line(t: Tally, k: u64, line: &[u8]) -> Tally {
     let mut ribbon = [0u8; MOST_BYTES];
     let mut rooms = [0u16; MOST_NUMBERS];
     run_list(
+        rt,
         t,
         k,
         bytes_in(line, 1, &mut bands),
@@ -38,10 +40,11 @@ pub fn list_line(t: Tally, k: u64, line: &[u8]) -> Tally {
 }
 
 // The case of a line `pair LIST RIBBON`.
-pub fn pair_line(t: Tally, k: u64, line: &[u8]) -> Tally {
+pub fn pair_line(rt: &impl Print, t: Tally, k: u64, line: &[u8]) -> Tally {
     let mut list = [0u8; MOST_BYTES];
     let mut ribbon = [0u8; MOST_BYTES];
     run_pair(
+        rt,
         t,
         k,
         bytes_in(line, 1, &mut list),

@@ -36,6 +36,7 @@ fn count(read: Read) -> Counts {
 
 // What is told of the four buffers.
 fn tell_lists(
+    rt: &impl Print,
     t: Tally,
     c: Counts,
     bands: &[u8],
@@ -43,14 +44,14 @@ fn tell_lists(
     names: &[u8],
     sizes: &[u16],
 ) -> Tally {
-    let mut told = tell_bytes(t, b"bands,#,", bands, c.bands);
-    told = tell_numbers(told, b"lengths,#,", lengths, c.codes);
-    told = tell_bytes(told, b"names,#,", names, c.names);
-    tell_numbers(told, b"sizes,#,", sizes, c.codes)
+    let mut told = tell_bytes(rt, t, b"bands,#,", bands, c.bands);
+    told = tell_numbers(rt, told, b"lengths,#,", lengths, c.codes);
+    told = tell_bytes(rt, told, b"names,#,", names, c.names);
+    tell_numbers(rt, told, b"sizes,#,", sizes, c.codes)
 }
 
 // The file read into four lent buffers.
-fn tell_read(t: Tally, file: &[u8], rooms: &[u16]) -> Tally {
+fn tell_read(rt: &impl Print, t: Tally, file: &[u8], rooms: &[u16]) -> Tally {
     let mut bands = [0u8; MOST_BYTES];
     let mut lengths = [0u16; MOST_NUMBERS];
     let mut names = [0u8; MOST_BYTES];
@@ -67,7 +68,8 @@ fn tell_read(t: Tally, file: &[u8], rooms: &[u16]) -> Tally {
         lend_numbers(&mut sizes, s),
     );
     tell_lists(
-        say_read(t, read),
+        rt,
+        say_read(rt, t, read),
         count(read),
         front(&bands, b),
         front_numbers(&lengths, l),
@@ -77,25 +79,30 @@ fn tell_read(t: Tally, file: &[u8], rooms: &[u16]) -> Tally {
 }
 
 // The ribbon program's output, in a row that is lent for it.
-fn tell_ribbon_output(t: Tally, file: &[u8], out: &mut [u8; 8194]) -> Tally {
+fn tell_ribbon_output(rt: &impl Print, t: Tally, file: &[u8], out: &mut [u8; 8194]) -> Tally {
     fill_bytes(out);
     let n = ribbons::ribbon_output(file, out);
-    tell_bytes(t, b"ribbon_output,#,", out, n)
+    tell_bytes(rt, t, b"ribbon_output,#,", out, n)
 }
 
 // The sheet program's.
-fn tell_sheet_output(t: Tally, file: &[u8], out: &mut [u8; MOST_SHEET_BYTES]) -> Tally {
+fn tell_sheet_output(
+    rt: &impl Print,
+    t: Tally,
+    file: &[u8],
+    out: &mut [u8; MOST_SHEET_BYTES],
+) -> Tally {
     fill_bytes(out);
     let n = ribbons::sheet_output(file, out);
-    tell_bytes(t, b"sheet_output,#,", out, n)
+    tell_bytes(rt, t, b"sheet_output,#,", out, n)
 }
 
 // Runs case k and tells it.
-pub fn run_file(t: Tally, k: u64, file: &[u8], rooms: &[u16]) -> Tally {
-    let mut told = say_form(t, b"case,#,file\n", k, 0, 0);
-    told = tell_read(bytes_line(told, b"file,#,", file), file, rooms);
+pub fn run_file(rt: &impl Print, t: Tally, k: u64, file: &[u8], rooms: &[u16]) -> Tally {
+    let mut told = say_form(rt, t, b"case,#,file\n", k, 0, 0);
+    told = tell_read(rt, bytes_line(rt, told, b"file,#,", file), file, rooms);
     let mut ribbon = [0u8; 8194];
-    told = tell_ribbon_output(told, file, &mut ribbon);
+    told = tell_ribbon_output(rt, told, file, &mut ribbon);
     let mut sheet = [0u8; MOST_SHEET_BYTES];
-    tell_sheet_output(told, file, &mut sheet)
+    tell_sheet_output(rt, told, file, &mut sheet)
 }

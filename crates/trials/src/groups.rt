@@ -8,7 +8,7 @@ use telling::{Tally, feed, say, say_form, say_word};
 // Which texts are printed, `a` for all, `f` for the first of each group, else none; whether the next one is; the title's part
 // of the file, at 0 before the first group; the group's cases and their checksum; all cases, and the checksum over the
 // groups'.
-#[derive(Drop)]
+#[derive(Clone, Copy)]
 struct Run {
     mode: u8,
     loud: bool,
@@ -26,16 +26,16 @@ fn printed() -> Tally {
 }
 
 // A line of a title, a count and a checksum is printed.
-fn show_line(title: &[u8], count: u64, sum: u64) {
-    say_form(say_word(printed(), title), b",#,#\n", count, sum, 0);
+fn show_line(rt: &impl Print, title: &[u8], count: u64, sum: u64) {
+    say_form(rt, say_word(rt, printed(), title), b",#,#\n", count, sum, 0);
 }
 
 // The group ends, if there is one; the answer is the checksum over the groups'.
-fn end_group(r: Run, file: &[u8]) -> u64 {
+fn end_group(rt: &impl Print, r: Run, file: &[u8]) -> u64 {
     if r.from == 0 {
         return 0;
     }
-    show_line(part(file, r.from, r.to), r.cases, r.sum);
+    show_line(rt, part(file, r.from, r.to), r.cases, r.sum);
     let t = feed(
         Tally {
             sum: r.sums,
@@ -55,11 +55,11 @@ fn shows(mode: u8) -> bool {
 }
 
 // A group begins with a line; that is printed where texts are.
-fn begin_group(r: Run, file: &[u8], from: usize, to: usize) -> Run {
-    let sums = end_group(r, file);
+fn begin_group(rt: &impl Print, r: Run, file: &[u8], from: usize, to: usize) -> Run {
+    let sums = end_group(rt, r, file);
     let loud = shows(r.mode);
     if loud {
-        say(say_word(printed(), part(file, from, to)), b'\n');
+        say(rt, say_word(rt, printed(), part(file, from, to)), b'\n');
     }
     Run {
         mode: r.mode,
@@ -92,11 +92,11 @@ fn counted(r: Run, t: Tally) -> Run {
 }
 
 // So many generated cases of a family.
-fn make_cases(r: Run, letter: u8, count: usize, seed: usize) -> Run {
+fn make_cases(rt: &impl Print, r: Run, letter: u8, count: usize, seed: usize) -> Run {
     let mut x = seed;
     let mut s = r;
     for i in 0..count {
-        let made = make_case(tally_of(s), s.cases, letter, i, x);
+        let made = make_case(rt, tally_of(s), s.cases, letter, i, x);
         x = made.x;
         s = counted(s, made.tally);
     }
@@ -104,26 +104,26 @@ fn make_cases(r: Run, letter: u8, count: usize, seed: usize) -> Run {
 }
 
 // The cases of a line `make FAMILY COUNT SEED`.
-fn make_line(r: Run, line: &[u8]) -> Run {
+fn make_line(rt: &impl Print, r: Run, line: &[u8]) -> Run {
     let letter = look(field(line, 1), 0);
-    make_cases(r, letter, number_in(line, 2), number_in(line, 3))
+    make_cases(rt, r, letter, number_in(line, 2), number_in(line, 3))
 }
 
 // The line between two indices of the file.
-fn run_line(r: Run, file: &[u8], from: usize, to: usize) -> Run {
+fn run_line(rt: &impl Print, r: Run, file: &[u8], from: usize, to: usize) -> Run {
     let line = part(file, from, to);
     match look(line, 0) {
-        b'=' => begin_group(r, file, from, to),
-        b'f' => counted(r, file_line(tally_of(r), r.cases, line)),
-        b'l' => counted(r, list_line(tally_of(r), r.cases, line)),
-        b'p' => counted(r, pair_line(tally_of(r), r.cases, line)),
-        b'm' => make_line(r, line),
+        b'=' => begin_group(rt, r, file, from, to),
+        b'f' => counted(r, file_line(rt, tally_of(r), r.cases, line)),
+        b'l' => counted(r, list_line(rt, tally_of(r), r.cases, line)),
+        b'p' => counted(r, pair_line(rt, tally_of(r), r.cases, line)),
+        b'm' => make_line(rt, r, line),
         _ => r,
     }
 }
 
 // The whole file. There are no more lines than bytes, and past the end they are empty.
-pub fn run_lines(file: &[u8], mode: u8) {
+pub fn run_lines(rt: &impl Print, file: &[u8], mode: u8) {
     let mut r = Run {
         mode,
         loud: false,
@@ -137,8 +137,8 @@ pub fn run_lines(file: &[u8], mode: u8) {
     let mut at = 0;
     for _ in 0..file.len() {
         let to = find(file, at, b'\n');
-        r = run_line(r, file, at, to);
+        r = run_line(rt, r, file, at, to);
         at = plus(to, 1);
     }
-    show_line(b"all", r.all, end_group(r, file));
+    show_line(rt, b"all", r.all, end_group(rt, r, file));
 }

@@ -12,6 +12,7 @@ use telling::{
 
 // The list, its names and the supplied ribbon.
 fn say_list(
+    rt: &impl Print,
     t: Tally,
     bands: &[u8],
     lengths: &[u16],
@@ -19,11 +20,11 @@ fn say_list(
     sizes: &[u16],
     ribbon: &[u8],
 ) -> Tally {
-    let mut told = bytes_line(t, b"codes,#,", bands);
-    told = numbers_line(told, b"lengths,#,", lengths);
-    told = bytes_line(told, b"names,#,", names);
-    told = numbers_line(told, b"sizes,#,", sizes);
-    bytes_line(told, b"supplied,#,", ribbon)
+    let mut told = bytes_line(rt, t, b"codes,#,", bands);
+    told = numbers_line(rt, told, b"lengths,#,", lengths);
+    told = bytes_line(rt, told, b"names,#,", names);
+    told = numbers_line(rt, told, b"sizes,#,", sizes);
+    bytes_line(rt, told, b"supplied,#,", ribbon)
 }
 
 // The bands that are laid out.
@@ -35,9 +36,15 @@ fn laid_bands(laid: Laid) -> usize {
 }
 
 // The list laid out into a lent buffer.
-fn tell_laid(t: Tally, bands: &[u8], lengths: &[u16], ribbon: &mut [u8]) -> Tally {
+fn tell_laid(rt: &impl Print, t: Tally, bands: &[u8], lengths: &[u16], ribbon: &mut [u8]) -> Tally {
     let laid = ribbons::lay_ribbon(bands, lengths, ribbon);
-    tell_bytes(say_laid(t, laid), b"ribbon,#,", ribbon, laid_bands(laid))
+    tell_bytes(
+        rt,
+        say_laid(rt, t, laid),
+        b"ribbon,#,",
+        ribbon,
+        laid_bands(laid),
+    )
 }
 
 // How many records are due: one for each code where all are held.
@@ -60,25 +67,40 @@ fn records_room(rooms: &[u16]) -> usize
 }
 
 // The ribbon checked into so many lent records.
-fn tell_checked(t: Tally, bands: &[u8], lengths: &[u16], ribbon: &[u8], room: usize) -> Tally
+fn tell_checked(
+    rt: &impl Print,
+    t: Tally,
+    bands: &[u8],
+    lengths: &[u16],
+    ribbon: &[u8],
+    room: usize,
+) -> Tally
     requires { room ≤ 130 }
 {
     let before: [Place; MOST_RECORDS] = marked_records();
     let recorded = check_front(bands, lengths, ribbon, before, room);
     let answer = recorded.answer;
     let after = recorded.places;
-    let said = say_checked(t, b"check", answer);
+    let said = say_checked(rt, t, b"check", answer);
     let due = records_due(answer, lengths.len());
-    tell_records(said, b"records,#,", before, after, room, due)
+    tell_records(rt, said, b"records,#,", before, after, room, due)
 }
 
 // The ribbon checked for so many records, which are handed back by value.
-fn tell_places(t: Tally, bands: &[u8], lengths: &[u16], ribbon: &[u8], room: usize) -> Tally {
+fn tell_places(
+    rt: &impl Print,
+    t: Tally,
+    bands: &[u8],
+    lengths: &[u16],
+    ribbon: &[u8],
+    room: usize,
+) -> Tally {
     let findings = ribbons::check_places(bands, lengths, ribbon, room);
     let answer = findings.answer;
     let records = findings.records;
-    let said = say_checked(t, b"places", answer);
+    let said = say_checked(rt, t, b"places", answer);
     tell_records(
+        rt,
         said,
         b"found,#,",
         blank_records(),
@@ -98,6 +120,7 @@ fn sheet_bytes(wrote: Wrote) -> usize {
 
 // The sheet written into a lent buffer.
 fn tell_sheet(
+    rt: &impl Print,
     t: Tally,
     bands: &[u8],
     lengths: &[u16],
@@ -106,19 +129,38 @@ fn tell_sheet(
     rows: &mut [u8],
 ) -> Tally {
     let wrote = ribbons::write_sheet(bands, lengths, names, sizes, rows);
-    tell_bytes(say_wrote(t, wrote), b"rows,#,", rows, sheet_bytes(wrote))
+    tell_bytes(
+        rt,
+        say_wrote(rt, t, wrote),
+        b"rows,#,",
+        rows,
+        sheet_bytes(wrote),
+    )
 }
 
 // The ribbon checked in three ways.
-fn tell_checks(t: Tally, bands: &[u8], lengths: &[u16], ribbon: &[u8], rooms: &[u16]) -> Tally {
+fn tell_checks(
+    rt: &impl Print,
+    t: Tally,
+    bands: &[u8],
+    lengths: &[u16],
+    ribbon: &[u8],
+    rooms: &[u16],
+) -> Tally {
     let n = records_room(rooms);
-    let mut told = tell_checked(t, bands, lengths, ribbon, n);
-    told = tell_places(told, bands, lengths, ribbon, n);
-    say_checked(told, b"only", ribbons::check_only(bands, lengths, ribbon))
+    let mut told = tell_checked(rt, t, bands, lengths, ribbon, n);
+    told = tell_places(rt, told, bands, lengths, ribbon, n);
+    say_checked(
+        rt,
+        told,
+        b"only",
+        ribbons::check_only(bands, lengths, ribbon),
+    )
 }
 
 // Runs case k and tells it.
 pub fn run_list(
+    rt: &impl Print,
     t: Tally,
     k: u64,
     bands: &[u8],
@@ -128,12 +170,18 @@ pub fn run_list(
     ribbon: &[u8],
     rooms: &[u16],
 ) -> Tally {
-    let mut told = say_form(t, b"case,#,list\n", k, 0, 0);
-    told = say_list(told, bands, lengths, names, sizes, ribbon);
+    let mut told = say_form(rt, t, b"case,#,list\n", k, 0, 0);
+    told = say_list(rt, told, bands, lengths, names, sizes, ribbon);
     let mut laid = [0u8; MOST_BYTES];
-    told = tell_laid(told, bands, lengths, lend_bytes(&mut laid, room(rooms, 0)));
-    told = tell_checks(told, bands, lengths, ribbon, rooms);
+    told = tell_laid(
+        rt,
+        told,
+        bands,
+        lengths,
+        lend_bytes(&mut laid, room(rooms, 0)),
+    );
+    told = tell_checks(rt, told, bands, lengths, ribbon, rooms);
     let mut rows = [0u8; MOST_BYTES];
     let lent = lend_bytes(&mut rows, room(rooms, 2));
-    tell_sheet(told, bands, lengths, names, sizes, lent)
+    tell_sheet(rt, told, bands, lengths, names, sizes, lent)
 }

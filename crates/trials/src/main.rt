@@ -11,21 +11,21 @@ mod making; // a generated case
 mod pair_case;
 
 use groups::run_lines;
-use libc::{STDIN_FILENO, STDOUT_FILENO};
+use std::rt::Env;
 
 // the most bytes of a file of cases
 const ROOM: usize = 131072;
 
 // The first letter of the first argument, which tells what texts are printed; 0 if there is none.
-fn mode() -> u8 {
-    let mut argument = io::buffer();
-    os::arg(1, &mut argument);
+fn mode(rt: &HostRuntime) -> u8 {
+    let mut argument = [0u8; 4096];
+    let _ = rt.arg(1, &mut argument);
     argument[0]
 }
 
-fn main() {
+fn main(rt: HostRuntime) {
     let mut file = [0u8; ROOM];
-    let n = files::read_whole(STDIN_FILENO, &mut file);
-    io::write_all(STDOUT_FILENO, b"group,cases,checksum\n");
-    run_lines(&file[..n], mode());
+    let n = files::read_whole(&mut rt.stdin(), &mut file);
+    let _ = rt.write_all(b"group,cases,checksum\n");
+    run_lines(&rt, &file[..n], mode(&rt));
 }

@@ -41,6 +41,7 @@ fn sheet_length(bands: &[u8], lengths: &[u16], names: &[u8], sizes: &[u16]) -> u
 
 // A list with names as case k of its group: its ribbon, the rooms, the run.
 fn run_named(
+    rt: &impl Print,
     t: Tally,
     k: u64,
     x: usize,
@@ -60,6 +61,7 @@ fn run_named(
     );
     let numbers = rooms.numbers;
     let tally = run_list(
+        rt,
         t,
         k,
         bands,
@@ -73,7 +75,7 @@ fn run_named(
 }
 
 // Case i of a line of the family of this letter, as case k of its group.
-pub fn make_case(t: Tally, k: u64, letter: u8, i: usize, x: usize) -> Made {
+pub fn make_case(rt: &impl Print, t: Tally, k: u64, letter: u8, i: usize, x: usize) -> Made {
     let mut bands = [0u8; BANDS_ROOM];
     let mut lengths = [0u16; LENGTHS_ROOM];
     let c = make_codes(letter, i, x, &mut bands, &mut lengths);
@@ -81,6 +83,7 @@ pub fn make_case(t: Tally, k: u64, letter: u8, i: usize, x: usize) -> Made {
     let mut sizes = [0u16; MOST_CODES];
     let n = make_names(c.x, c.codes, &mut names, &mut sizes);
     run_named(
+        rt,
         t,
         k,
         n.x,

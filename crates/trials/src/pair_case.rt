@@ -2,18 +2,18 @@
 use telling::{Tally, bytes_line, fill_bytes, say_form, tell_bytes};
 
 // The check program's output, in a row that is lent for it.
-fn tell_output(t: Tally, list: &[u8], ribbon: &[u8], out: &mut [u8; 32]) -> Tally {
+fn tell_output(rt: &impl Print, t: Tally, list: &[u8], ribbon: &[u8], out: &mut [u8; 32]) -> Tally {
     fill_bytes(out);
     let n = ribbons::check_output(list, ribbon, out);
-    tell_bytes(t, b"check_output,#,", out, n)
+    tell_bytes(rt, t, b"check_output,#,", out, n)
 }
 
 // Runs case k and tells it.
-pub fn run_pair(t: Tally, k: u64, list: &[u8], ribbon: &[u8]) -> Tally {
-    let mut told = say_form(t, b"case,#,pair\n", k, 0, 0);
-    told = bytes_line(told, b"list,#,", list);
-    told = bytes_line(told, b"ribbon,#,", ribbon);
-    told = bytes_line(told, b"bands,#,", ribbons::ribbon_of(ribbon));
+pub fn run_pair(rt: &impl Print, t: Tally, k: u64, list: &[u8], ribbon: &[u8]) -> Tally {
+    let mut told = say_form(rt, t, b"case,#,pair\n", k, 0, 0);
+    told = bytes_line(rt, told, b"list,#,", list);
+    told = bytes_line(rt, told, b"ribbon,#,", ribbon);
+    told = bytes_line(rt, told, b"bands,#,", ribbons::ribbon_of(ribbon));
     let mut out = [0u8; 32];
-    tell_output(told, list, ribbon, &mut out)
+    tell_output(rt, told, list, ribbon, &mut out)
 }

@@ -162,6 +162,8 @@ few_codes : {run ls row : List ℕ} → Fit run ls row → length ls ≤ 128
 few_codes {run} {ls} F = (holds (is_fit_list run ls) (passes (codes_checked run ls) F.list)).at_most
 
 are_counted : (i : ℕ) (cs : List (List ℕ)) (row : List ℕ) (rs : List PlaceRecord) → AreRecords i cs row rs → length rs ≡ length cs
+are_counted i [] row (r ∷ rs) a = elim a [ ]
+are_counted i (c ∷ cs) row [] a = elim a [ ]
 are_counted i [] row [] a = refl
 are_counted i (c ∷ cs) row (r ∷ rs) a = ap suc (are_counted (suc i) cs row rs a.2)
 

@@ -1,11 +1,6 @@
 -- `numbers::decimal_size` meets its contract: the invariant has the digits taken off so far, and those left.
-use mathlib.Core.Path.{◌≡◌}
-use Prim.Native.Nat.{◌+◌}
-use lib.ListN.{length}
-use Rattle.sheets.specs.Decimal.{decimal}
 use Rattle.sheets.proofs.Decimal.{decimal_few}
 use Rattle.fields.proofs.Digits.{one_digit_long, one_digit_longer}
-use borrow.Author.Rules.{rules}
 use native.Mathlib.Omega.{arith}
 use Rattle.fields.proofs.numbers.decimal_size.Goals as goal
 

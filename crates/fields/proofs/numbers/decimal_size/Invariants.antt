@@ -3,10 +3,6 @@ use mathlib.Core.Path.{◌≡◌}
 use Prim.Native.Nat.{◌+◌}
 use lib.ListN.{length}
 use Rattle.sheets.specs.Decimal.{decimal}
-use Rattle.sheets.proofs.Decimal.{decimal_few}
-use Rattle.fields.proofs.Digits.{one_digit_long, one_digit_longer}
-use borrow.Author.Rules.{rules}
-use native.Mathlib.Omega.{arith}
 use Rattle.fields.proofs.numbers.decimal_size.Given as goal
 
 abbrev pub invariant-loop-left : goal.invariant-loop-left

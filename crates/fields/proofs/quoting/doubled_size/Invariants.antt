@@ -1,12 +1,8 @@
 -- `quoting::doubled_size` meets its contract: the invariant has the length of the bytes so far, at most two for each.
-use mathlib.Core.Path.{◌≡◌, ap, ◌∙◌}
-use mathlib.Core.List.{[], ◌∷◌}
+use mathlib.Core.Path.{◌≡◌}
 use Prim.Native.Nat.{◌+◌, ◌*◌, ◌-◌, ◌≤◌}
-use lib.ListN.{length, drop, get_or, length-append}
+use lib.ListN.{length, drop}
 use Rattle.grammar.specs.Quoting.{doubled_quotes}
-use Rattle.fields.proofs.Quoted.{doubled_next, doubled_none, doubled_few}
-use borrow.Author.Rules.{rules}
-use native.Mathlib.Omega.{arith}
 use Rattle.fields.proofs.quoting.doubled_size.Given as goal
 
 abbrev pub invariant-loop-i : goal.invariant-loop-i

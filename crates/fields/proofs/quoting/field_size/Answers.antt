@@ -2,11 +2,9 @@
 use mathlib.Core.Path.{sym, ap, ◌∙◌}
 use mathlib.Core.List.{[], ◌∷◌}
 use lib.ListN.{length, length-append}
-use borrow.Author.Tests.{not-true, not-false}
 use Rattle.grammar.specs.Files.{quote}
 use Rattle.grammar.specs.Quoting.{doubled_quotes}
 use Rattle.fields.proofs.Quoted.{unquoted, quoted, field_few}
-use borrow.Author.Rules.{rules}
 use native.Mathlib.Omega.{arith}
 use Rattle.fields.proofs.quoting.field_size.Goals as goal
 

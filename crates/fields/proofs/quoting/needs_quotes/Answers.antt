@@ -1,9 +1,6 @@
 -- `quoting::needs_quotes` meets its contract: the name needs quotes exactly when the bytes not yet looked at do.
 use mathlib.Core.Path.{refl}
-use Prim.Native.Nat.{◌-◌}
-use lib.ListN.{length}
-use Rattle.fields.proofs.Quoted.{Unmarked, none_marked, one_marked, unmarked_more}
-use borrow.Author.Rules.{rules}
+use Rattle.fields.proofs.Quoted.{none_marked, one_marked, unmarked_more}
 use Rattle.fields.proofs.quoting.needs_quotes.Goals as goal
 
 pub loop-i-init : goal.loop-i-init

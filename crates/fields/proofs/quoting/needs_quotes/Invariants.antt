@@ -1,9 +1,7 @@
 -- `quoting::needs_quotes` meets its contract: the name needs quotes exactly when the bytes not yet looked at do.
-use mathlib.Core.Path.{refl}
 use Prim.Native.Nat.{◌-◌}
 use lib.ListN.{length}
-use Rattle.fields.proofs.Quoted.{Unmarked, none_marked, one_marked, unmarked_more}
-use borrow.Author.Rules.{rules}
+use Rattle.fields.proofs.Quoted.{Unmarked}
 use Rattle.fields.proofs.quoting.needs_quotes.Given as goal
 
 abbrev pub invariant-loop-i : goal.invariant-loop-i

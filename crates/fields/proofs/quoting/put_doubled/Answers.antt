@@ -1,12 +1,10 @@
 -- `quoting::put_doubled` meets its contract: the invariant has the bytes so far written and those behind them still to come.
 use mathlib.Core.Path.{refl}
 use mathlib.Core.List.{[], ◌∷◌}
-use Prim.Native.Nat.{◌-◌}
-use lib.ListN.{length, drop, get_or}
-use Rattle.words.proofs.Partly.{Partly, none_yet, as_long, room_for, and_then, all_done}
+use lib.ListN.{get_or}
+use Rattle.words.proofs.Partly.{none_yet, as_long, room_for, and_then, all_done}
 use Rattle.grammar.specs.Quoting.{doubled_quotes}
 use Rattle.fields.proofs.Quoted.{doubled_next, doubled_none}
-use borrow.Author.Rules.{rules}
 use Rattle.fields.proofs.quoting.put_doubled.Goals as goal
 
 pub loop-i-init : goal.loop-i-init

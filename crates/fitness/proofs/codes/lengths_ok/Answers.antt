@@ -1,9 +1,6 @@
 -- `lengths_ok` scans the lengths. The invariant: those passed are from 1 to 64.
 use mathlib.Core.Path.{sym}
-use Prim.Native.Nat.{◌-◌}
-use lib.ListN.{length}
-use borrow.Author.Rules.{rules}
-use Rattle.fitness.proofs.Scanning.{Scanned, scanned_none, scanned_below, scanned_above, scanned_more, scanned_all}
+use Rattle.fitness.proofs.Scanning.{scanned_none, scanned_below, scanned_above, scanned_more, scanned_all}
 use Rattle.fitness.proofs.codes.lengths_ok.Goals as goal
 
 pub loop-i-init : goal.loop-i-init

@@ -1,9 +1,6 @@
 -- `sum_of` adds the lengths up. The invariant: the sum so far and the total of what is left make the total.
-use Prim.Native.Nat.{◌-◌}
-use lib.ListN.{length}
-use borrow.Author.Rules.{rules}
 use native.Mathlib.Omega.{arith}
-use Rattle.fitness.proofs.Scanning.{Added, added_none, added_more, added_all}
+use Rattle.fitness.proofs.Scanning.{added_none, added_more, added_all}
 use Rattle.fitness.proofs.codes.sum_of.Goals as goal
 
 pub loop-i-init : goal.loop-i-init

@@ -1,12 +1,8 @@
 -- `all_named` passes the names: all keep the rule exactly when those not yet passed do.
 use mathlib.Core.Path.{sym}
-use Prim.Native.Nat.{◌-◌}
 use native.Mathlib.Omega.{arith}
-use lib.ListN.{length}
-use borrow.Author.Tests.{not-true, not-false}
-use borrow.Author.Rules.{rules}
 use Rattle.lists.specs.Fit.{all, name_ok_lem}
-use Rattle.fitness.proofs.Passing.{Passing, passing_none, passed_all, word_fits, breaks_rule, keeps_rule}
+use Rattle.fitness.proofs.Passing.{passing_none, passed_all, word_fits, breaks_rule, keeps_rule}
 use Rattle.fitness.proofs.names.all_named.Goals as goal
 
 pub loop-k-init : goal.loop-k-init

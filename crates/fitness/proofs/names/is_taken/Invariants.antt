@@ -1,11 +1,8 @@
 -- `is_taken` meets its contract: the name is one of all names exactly when it is one of those not yet looked at.
-use mathlib.Core.Path.{sym}
 use Prim.Native.Nat.{◌-◌}
-use native.Mathlib.Omega.{arith}
 use lib.ListN.{length}
-use borrow.Author.Rules.{rules}
 use Rattle.lists.specs.Fit.{is_in}
-use Rattle.fitness.proofs.Passing.{Passing, passing_none, passed_all, word_fits, is_there, not_next}
+use Rattle.fitness.proofs.Passing.{Passing}
 use Rattle.fitness.proofs.names.is_taken.Given as goal
 
 abbrev pub invariant-loop-k : goal.invariant-loop-k

@@ -1,7 +1,6 @@
 -- `names_ok` asks clause by clause, in the order of the test, and stops at the first that is broken.
 use mathlib.Core.Path.{sym, ◌∙◌}
-use borrow.Author.Tests.{not-true, not-false, eq-eqb, ne_eqb}
-use borrow.Author.Rules.{rules}
+use borrow.Author.Tests.{eq-eqb, ne_eqb}
 use native.Mathlib.Omega.{arith}
 use Rattle.fitness.proofs.names.names_ok.Goals as goal
 

@@ -1,9 +1,6 @@
 -- `all_between` scans the bytes. The invariant: those passed are from low to high.
 use mathlib.Core.Path.{sym}
-use Prim.Native.Nat.{◌-◌}
-use lib.ListN.{length}
-use borrow.Author.Rules.{rules}
-use Rattle.fitness.proofs.Scanning.{Scanned, scanned_none, scanned_below, scanned_above, scanned_more, scanned_all}
+use Rattle.fitness.proofs.Scanning.{scanned_none, scanned_below, scanned_above, scanned_more, scanned_all}
 use Rattle.fitness.proofs.texts.all_between.Goals as goal
 
 pub loop-i-init : goal.loop-i-init

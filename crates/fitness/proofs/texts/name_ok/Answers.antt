@@ -1,6 +1,5 @@
 -- `name_ok` asks for the length, then for each byte, as the rule does.
 use borrow.Author.Tests.{le-leb, lt-leb}
-use borrow.Author.Rules.{rules}
 use Rattle.fitness.proofs.texts.name_ok.Goals as goal
 
 pub returns-then-n-lt1 : goal.returns-then-n-lt1

@@ -3,7 +3,7 @@
 use mathlib.Core.Path.{refl}
 use native.Mathlib.Omega.{arith}
 use borrow.Author.Rules.{rules}
-use Rattle.joins.proofs.Walks.{Walk, walk_stops, walk_ends, walk_goes}
+use Rattle.joins.proofs.Walks.{walk_stops, walk_ends, walk_goes}
 use Rattle.joining.proofs.ends.end_from.Goals as goal
 
 pub loop-left-init : goal.loop-left-init

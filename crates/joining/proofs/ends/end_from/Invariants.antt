@@ -1,9 +1,6 @@
 -- `ends::end_from` walks to the end of a piece. The invariant: from where the walk stands, with the steps left, the
 -- definition comes to the end that it comes to from f.
-use mathlib.Core.Path.{refl}
-use native.Mathlib.Omega.{arith}
-use borrow.Author.Rules.{rules}
-use Rattle.joins.proofs.Walks.{Walk, walk_stops, walk_ends, walk_goes}
+use Rattle.joins.proofs.Walks.{Walk}
 use Rattle.joining.proofs.ends.end_from.Given as goal
 
 abbrev pub invariant-loop-left : goal.invariant-loop-left

@@ -1,7 +1,6 @@
 -- `making::make_join` stores a join and its mirror.
 use native.Mathlib.Omega.{arith}
 use lib.ListN.{length-set}
-use borrow.Author.Rules.{rules}
 use Rattle.joins.proofs.Storing.{stored_by}
 use Rattle.joining.proofs.making.make_join.Goals as goal
 

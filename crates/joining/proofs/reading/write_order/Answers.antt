@@ -2,7 +2,6 @@
 -- piece.
 use Rattle.joins.proofs.Following.{order_none, order_written}
 use Rattle.joins.proofs.Walks.{mirror_of_end}
-use borrow.Author.Rules.{rules}
 use Rattle.joining.proofs.reading.write_order.Goals as goal
 
 pub returns-then-n-eq0 : goal.returns-then-n-eq0

@@ -1,8 +1,6 @@
 -- `reading::write_piece` writes a piece. The invariant: what is written and what is still to be read are the piece.
 use Prim.Native.Nat.{◌-◌, ◌*◌}
-use native.Mathlib.Omega.{arith}
-use borrow.Author.Rules.{rules}
-use Rattle.joins.proofs.Written.{Writing, writing_begun, writing_stops, writing_goes, writing_ended}
+use Rattle.joins.proofs.Written.{Writing}
 use Rattle.joining.proofs.reading.write_piece.Given as goal
 
 abbrev pub invariant-loop-count : goal.invariant-loop-count

@@ -1,11 +1,7 @@
 -- `agree` compares the last k bands of one way with the first k of the other. The invariant: the bands passed are alike.
-use mathlib.Core.Path.{◌≡◌, sym, ◌∙◌}
 use Prim.Native.Nat.{◌-◌}
-use borrow.Author.Rules.{rules}
-use native.Mathlib.Omega.{arith}
 use Rattle.words.specs.Ways.{way_of}
-use Rattle.words.proofs.Ways.{way_size}
-use Rattle.matching.proofs.Comparing.{Compared, compared_none, compared_more, compared_stop, compared_all}
+use Rattle.matching.proofs.Comparing.{Compared}
 use Rattle.matching.proofs.bands.agree.Given as goal
 
 abbrev pub invariant-loop-i : goal.invariant-loop-i

@@ -1,6 +1,5 @@
 -- `same`: words of different lengths differ, and words of one length are compared band by band.
 use mathlib.Core.Path.{refl, sym, ◌∙◌}
-use borrow.Author.Rules.{rules}
 use Rattle.matching.proofs.Comparing.{agrees_same, other_length}
 use Rattle.matching.proofs.bands.same.Goals as goal
 

@@ -1,11 +1,9 @@
 -- `overlap` tries the lengths that are too long for the pass from the longest down. The invariant: none of those tried
 -- agrees. Then the pass finds the longest of those left.
 use mathlib.Core.Path.{sym, ◌∙◌}
-use borrow.Author.Rules.{rules}
 use native.Mathlib.Omega.{arith}
-use Rattle.words.specs.Ways.{way_of}
 use Rattle.words.proofs.Ways.{way_size}
-use Rattle.matching.proofs.Trying.{Tried, tried_none, tried_hit, tried_miss, tried_last}
+use Rattle.matching.proofs.Trying.{tried_none, tried_hit, tried_miss, tried_last}
 use Rattle.matching.proofs.endings.overlap.Goals as goal
 
 pub loop-k-init : goal.loop-k-init

@@ -1,11 +1,8 @@
 -- `fall_backs`: the row is filled band by band, so in the end it is filled up to the whole word.
-use mathlib.Core.Path.{◌≡◌, refl}
-use Prim.Native.Nat.{◌-◌}
+use mathlib.Core.Path.{refl}
 use borrow.Author.Rules.{rules}
 use native.Mathlib.Omega.{arith}
-use lib.ListN.{length}
 use Rattle.words.specs.Ways.{way_of}
-use Rattle.words.specs.Falling.{Filled}
 use Rattle.words.proofs.FallBacks.{falls_one, falls_fewer, filled_for}
 use Rattle.matching.proofs.falling.fall_backs.Goals as goal
 

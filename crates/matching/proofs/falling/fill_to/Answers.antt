@@ -1,6 +1,5 @@
 -- `fill_to`: where the match is longer than ever before, the row gets the next fall-back, one band further along b than the
 -- last.
-use borrow.Author.Rules.{rules}
 use native.Mathlib.Omega.{arith}
 use mathlib.Core.Path.{sym}
 use Prim.Native.Nat.{◌<◌}

@@ -2,11 +2,8 @@
 use borrow.Author.Rules.{rules}
 use native.Mathlib.Omega.{arith}
 use mathlib.Core.Path.{◌≡◌, refl}
-use Prim.Native.Nat.{◌-◌, ◌≤◌}
-use lib.ListN.{length, drop}
-use Rattle.words.specs.Ways.{way_of}
 use Rattle.words.proofs.Ways.{way_size}
-use Rattle.matching.proofs.Passing.{Passed, passed_none, passed_held, passed_row, passed_next, passed_more, follows_from}
+use Rattle.matching.proofs.Passing.{passed_none, passed_held, passed_row, passed_next, passed_more, follows_from}
 use Rattle.matching.proofs.falling.held_at_end.Goals as goal
 
 pub loop-i-init : goal.loop-i-init

@@ -1,12 +1,9 @@
 -- `held_at_end`: the invariant is what a pass along the last k bands holds after i of them.
-use borrow.Author.Rules.{rules}
-use native.Mathlib.Omega.{arith}
-use mathlib.Core.Path.{◌≡◌, refl}
+use mathlib.Core.Path.{◌≡◌}
 use Prim.Native.Nat.{◌-◌, ◌≤◌}
 use lib.ListN.{length, drop}
 use Rattle.words.specs.Ways.{way_of}
-use Rattle.words.proofs.Ways.{way_size}
-use Rattle.matching.proofs.Passing.{Passed, passed_none, passed_held, passed_row, passed_next, passed_more, follows_from}
+use Rattle.matching.proofs.Passing.{Passed}
 use Rattle.matching.proofs.falling.held_at_end.Given as goal
 
 abbrev pub invariant-loop-i : goal.invariant-loop-i

@@ -1,6 +1,5 @@
 -- `begins_way`: a way that is longer than the row does not begin it, and any other is compared band by band.
 use mathlib.Core.Path.{sym, ◌∙◌}
-use borrow.Author.Rules.{rules}
 use Rattle.words.specs.Ways.{way_of}
 use Rattle.words.proofs.Ways.{way_size}
 use Rattle.matching.proofs.Comparing.{agrees_begins, begins_longer}

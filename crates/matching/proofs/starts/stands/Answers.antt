@@ -1,6 +1,5 @@
 -- `stands` asks for the word as given, then turned.
 use mathlib.Core.Path.{sym, ◌∙◌}
-use borrow.Author.Rules.{rules}
 use Rattle.matching.proofs.starts.stands.Goals as goal
 
 pub returns-then-stands_way : goal.returns-then-stands_way

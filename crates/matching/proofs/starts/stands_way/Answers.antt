@@ -1,11 +1,7 @@
 -- `stands_way` tries the starts one by one. The invariant: the way begins at none of those passed.
 use mathlib.Core.Path.{sym, ◌∙◌}
-use Prim.Native.Nat.{◌-◌}
-use lib.ListN.{length}
-use borrow.Author.Rules.{rules}
-use Rattle.words.specs.Ways.{way_of}
 use Rattle.words.proofs.Ways.{way_size}
-use Rattle.matching.proofs.Seeking.{Sought, sought_none, sought_hit, sought_miss, sought_all}
+use Rattle.matching.proofs.Seeking.{sought_none, sought_hit, sought_miss, sought_all}
 use Rattle.matching.proofs.starts.stands_way.Goals as goal
 
 pub loop-i-init : goal.loop-i-init

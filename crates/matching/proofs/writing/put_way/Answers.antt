@@ -1,10 +1,9 @@
 -- `writing::put_way` meets its contract. The loop's invariant: the row is the one at entry with the first j bands copied in.
 use borrow.Author.Rules.{rules}
 use native.Mathlib.Omega.{arith}
-use mathlib.Core.Path.{◌≡◌, sym, ◌∙◌}
-use Prim.Native.Nat.{◌-◌, ◌≤◌}
-use lib.ListN.{length, drop, length-drop}
-use lib.Seq.{paste, paste-zero, get_or-drop}
+use mathlib.Core.Path.{sym, ◌∙◌}
+use lib.ListN.{drop, length-drop}
+use lib.Seq.{paste-zero, get_or-drop}
 use Rattle.words.specs.Ways.{way_of}
 use Rattle.words.proofs.Ways.{way_size}
 use Rattle.words.proofs.Written.{copy_more, copy_written}

@@ -1,13 +1,9 @@
 -- `writing::put_way` meets its contract. The loop's invariant: the row is the one at entry with the first j bands copied in.
-use borrow.Author.Rules.{rules}
-use native.Mathlib.Omega.{arith}
-use mathlib.Core.Path.{◌≡◌, sym, ◌∙◌}
+use mathlib.Core.Path.{◌≡◌}
 use Prim.Native.Nat.{◌-◌, ◌≤◌}
-use lib.ListN.{length, drop, length-drop}
-use lib.Seq.{paste, paste-zero, get_or-drop}
+use lib.ListN.{length, drop}
+use lib.Seq.{paste}
 use Rattle.words.specs.Ways.{way_of}
-use Rattle.words.proofs.Ways.{way_size}
-use Rattle.words.proofs.Written.{copy_more, copy_written}
 use Rattle.matching.proofs.writing.put_way.Given as goal
 
 abbrev pub invariant-loop-j : goal.invariant-loop-j

@@ -1,5 +1,4 @@
 -- `contained::held_by`: the two tests are those of the codes that the parts are.
-use borrow.Author.Rules.{rules}
 use Rattle.parts.proofs.Parts.{part_there, held_as, not_held}
 use Rattle.parts.proofs.contained.held_by.Goals as goal
 

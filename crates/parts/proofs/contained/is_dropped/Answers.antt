@@ -1,10 +1,8 @@
 -- `contained::is_dropped`. The loop's invariant: no part below j holds part i.
 use mathlib.Core.Path.{sym, ◌∙◌, ◌≡◌}
 use mathlib.Core.Bool.{false}
-use Prim.Native.Nat.{◌-◌, ◌≤◌}
 use borrow.Author.Rules.{rules}
 use Rattle.parts.proofs.Sieving.{none_more, dropped_by, not_dropped}
-use Rattle.greedy.specs.Dropping.{some_below}
 use Rattle.parts.specs.Parts.{part_held}
 use Rattle.parts.proofs.contained.is_dropped.Goals as goal
 

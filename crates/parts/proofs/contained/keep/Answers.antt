@@ -1,10 +1,6 @@
 -- `contained::keep`. The loop's invariant: of the first i parts those that are kept stand at the fronts of the two rows.
-use mathlib.Core.Path.{◌≡◌}
-use Prim.Native.Nat.{◌-◌}
-use lib.ListN.{length}
 use borrow.Author.Rules.{rules}
 use Rattle.parts.proofs.Sieving.{sieve_start, sieve_end}
-use Rattle.parts.specs.Parts.{Sieved}
 use Rattle.parts.proofs.contained.keep.Goals as goal
 
 pub loop-i-init : goal.loop-i-init

@@ -2,8 +2,6 @@
 use mathlib.Core.Path.{◌≡◌}
 use Prim.Native.Nat.{◌-◌}
 use lib.ListN.{length}
-use borrow.Author.Rules.{rules}
-use Rattle.parts.proofs.Sieving.{sieve_start, sieve_end}
 use Rattle.parts.specs.Parts.{Sieved}
 use Rattle.parts.proofs.contained.keep.Given as goal
 

@@ -1,6 +1,5 @@
 -- `contained::keep_next`: the parts gone through are one more, and those kept are one more where it is not dropped.
 use mathlib.Core.Path.{sym, ◌∙◌}
-use borrow.Author.Rules.{rules}
 use Rattle.parts.proofs.Sieving.{sieve_drop, sieve_keep}
 use Rattle.parts.proofs.contained.keep_next.Goals as goal
 

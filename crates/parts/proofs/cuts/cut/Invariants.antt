@@ -1,9 +1,7 @@
 -- `cuts::cut`. The loop's invariant: the next code starts at the sum of the lengths before it, and the codes so far are cut.
 use Prim.Native.Nat.{◌-◌}
-use native.Mathlib.Omega.{arith}
 use lib.ListN.{length}
-use borrow.Author.Rules.{rules}
-use Rattle.parts.proofs.Cutting.{Cutting, cut_next, cut_end, total_part}
+use Rattle.parts.proofs.Cutting.{Cutting}
 use Rattle.parts.proofs.cuts.cut.Given as goal
 
 abbrev pub invariant-loop-i : goal.invariant-loop-i

@@ -1,6 +1,5 @@
 -- `cuts::part`: from a start to that start and a size is so many bands from the start on.
 use lib.ListN.{get_or}
-use borrow.Author.Rules.{rules}
 use Rattle.lists.proofs.Runs.{part_to}
 use Rattle.parts.proofs.cuts.part.Goals as goal
 

@@ -1,5 +1,4 @@
 -- `face_side` compares the two words that the faces are.
-use borrow.Author.Rules.{rules}
 use mathlib.Core.Path.{ap, ◌∙◌}
 use Prim.Native.Nat.{◌/◌}
 use lib.ListN.{length}

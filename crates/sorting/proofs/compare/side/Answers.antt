@@ -1,11 +1,8 @@
 -- `side` compares band by band. The invariant: the bands passed are alike, so what is left of the two words decides.
-use borrow.Author.Rules.{rules}
 use native.Mathlib.Omega.{arith}
 use mathlib.Core.Path.{sym}
-use Prim.Native.Nat.{◌-◌}
-use Rattle.words.specs.Ways.{way_of}
 use Rattle.words.proofs.Ways.{way_size}
-use Rattle.sorting.proofs.Sides.{Siding, siding_none, siding_short, siding_less, siding_more, siding_same, siding_all}
+use Rattle.sorting.proofs.Sides.{siding_none, siding_short, siding_less, siding_more, siding_same, siding_all}
 use Rattle.sorting.proofs.compare.side.Goals as goal
 
 pub loop-i-init : goal.loop-i-init

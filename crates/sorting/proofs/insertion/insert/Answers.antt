@@ -1,6 +1,6 @@
 -- `insert` moves the later places up, from the last down. The invariant: those from i on are moved.
 use borrow.Author.Rules.{rules}
-use Rattle.sorting.proofs.Rising.{Shifted, shift_next, shift_end}
+use Rattle.sorting.proofs.Rising.{shift_next, shift_end}
 use Rattle.sorting.proofs.insertion.insert.Goals as goal
 
 pub loop-i-preserved : goal.loop-i-preserved

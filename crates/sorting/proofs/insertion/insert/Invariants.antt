@@ -1,6 +1,5 @@
 -- `insert` moves the later places up, from the last down. The invariant: those from i on are moved.
-use borrow.Author.Rules.{rules}
-use Rattle.sorting.proofs.Rising.{Shifted, shift_next, shift_end}
+use Rattle.sorting.proofs.Rising.{Shifted}
 use Rattle.sorting.proofs.insertion.insert.Given as goal
 
 abbrev pub invariant-loop-i : goal.invariant-loop-i

@@ -1,10 +1,8 @@
 -- `sort_faces` puts in one face after another. The invariant: the faces below f are sorted.
 use borrow.Author.Rules.{rules}
-use lib.ListN.{length}
 use native.Mathlib.Omega.{arith}
 use mathlib.Core.Path.{◌≡◌}
-use Prim.Native.Nat.{◌*◌, ◌-◌, ◌≤◌}
-use Rattle.sorting.specs.Sorted.{SortedBelow}
+use Prim.Native.Nat.{◌*◌}
 use Rattle.sorting.proofs.Rising.{sorted_none}
 use Rattle.sorting.proofs.insertion.sort_faces.Goals as goal
 

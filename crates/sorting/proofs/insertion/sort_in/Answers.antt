@@ -1,5 +1,4 @@
 -- `sort_in`: at the place found, all faces before are before f and none from there on is, so the faces stay sorted.
-use borrow.Author.Rules.{rules}
 use mathlib.Core.Path.{sym}
 use Prim.Native.Nat.{◌/◌}
 use native.Mathlib.Omega.{arith}

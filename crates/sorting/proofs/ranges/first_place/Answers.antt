@@ -1,10 +1,8 @@
 -- `first_place` halves the places that are left. The invariant: those before `low` are before side k, those from `high` on
 -- are not, since the sides of sorted faces rise.
-use borrow.Author.Rules.{rules}
 use mathlib.Core.Path.{◌≡◌}
 use native.Mathlib.Omega.{arith}
 use Prim.Native.Nat.{◌+◌, ◌-◌, ◌/◌}
-use Rattle.sorting.specs.Sorted.{side_at, Narrowed}
 use Rattle.sorting.proofs.Rising.{seeks_at, narrow_up, narrow_down}
 use Rattle.sorting.proofs.ranges.first_place.Goals as goal
 

@@ -1,5 +1,4 @@
 -- `range_end`: the first place of the range decides whether it is empty; if not, what is behind it is searched.
-use borrow.Author.Rules.{rules}
 use native.Mathlib.Omega.{arith}
 use Rattle.sorting.proofs.Rising.{seeks_at, narrow_up, narrow_down}
 use Rattle.sorting.proofs.ranges.range_end.Goals as goal

@@ -1,5 +1,4 @@
 -- `writing::face_overlap`: a face is a way of its part, so the overlap of the parts' ways is that of the faces.
-use borrow.Author.Rules.{rules}
 use mathlib.Core.Path.{◌∙◌}
 use Rattle.spelling.proofs.writing.face_overlap.Goals as goal
 

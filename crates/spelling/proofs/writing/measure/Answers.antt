@@ -6,9 +6,8 @@ use Rattle.spelling.proofs.Steps.{face_at_lem, skip_size, size_small, longer, sa
 use borrow.Author.Rules.{rules}
 use native.Mathlib.Omega.{arith}
 use mathlib.Core.Path.{◌≡◌}
-use Prim.Native.Nat.{ℕ, ◌*◌, ◌-◌, ◌≤◌, ◌<◌}
-use lib.ListN.{length, take, get_or}
-use Rattle.spelling.specs.Ribbons.{part_ribbon, part_saved, part_skip}
+use lib.ListN.{take}
+use Rattle.spelling.specs.Ribbons.{part_skip}
 use Rattle.spelling.proofs.writing.measure.Goals as goal
 
 pub size_at-requires : goal.size_at-requires

@@ -1,10 +1,5 @@
 -- `writing::measure`. The loop's invariant: length and saving of the ribbon of the first i faces, at most 64 a face each, and
 -- what each of them shares.
-use lib.Seq.{take_all}
-use Rattle.parts.proofs.Cutting.{set_next}
-use Rattle.spelling.proofs.Steps.{face_at_lem, skip_size, size_small, longer, saves}
-use borrow.Author.Rules.{rules}
-use native.Mathlib.Omega.{arith}
 use mathlib.Core.Path.{◌≡◌}
 use Prim.Native.Nat.{ℕ, ◌*◌, ◌-◌, ◌≤◌, ◌<◌}
 use lib.ListN.{length, take, get_or}

@@ -4,10 +4,7 @@ use Rattle.spelling.proofs.Steps.{face_at_lem, write_fits, write_next}
 use borrow.Author.Rules.{rules}
 use native.Mathlib.Omega.{arith}
 use mathlib.Core.Path.{◌≡◌}
-use Prim.Native.Nat.{◌-◌, ◌≤◌}
-use lib.ListN.{length, take}
-use Rattle.lists.specs.Runs.{over}
-use Rattle.spelling.specs.Ribbons.{part_ribbon}
+use lib.ListN.{take}
 use Rattle.spelling.proofs.writing.write_bands.Goals as goal
 
 pub part-requires : goal.part-requires

@@ -1,8 +1,4 @@
 -- `writing::write_bands`. The loop's invariant: the ribbon of the first i faces is written, and the next goes behind it.
-use lib.Seq.{take_all}
-use Rattle.spelling.proofs.Steps.{face_at_lem, write_fits, write_next}
-use borrow.Author.Rules.{rules}
-use native.Mathlib.Omega.{arith}
 use mathlib.Core.Path.{◌≡◌}
 use Prim.Native.Nat.{◌-◌, ◌≤◌}
 use lib.ListN.{length, take}

@@ -1,10 +1,6 @@
 -- `next_fit`: the window is that of its start, and no start passed over fits.
-use Prim.Native.Nat.{◌-◌}
-use borrow.Author.Rules.{rules}
 use native.Mathlib.Omega.{arith}
-use lib.ListN.{length}
 use Rattle.words.proofs.Deciding.{fails}
-use Rattle.windows.specs.Windows.{Windowed, Skipped}
 use Rattle.windows.proofs.Adding.{adds_small, first_in, adds_next, skipped_none, skipped_more}
 use Rattle.windows.proofs.fitting.next_fit.Goals as goal
 
@@ -24,7 +20,7 @@ overflow_sub-w c =
 
 pub overflow_add-w-in-loop-w-2 : goal.overflow_add-w-in-loop-w-2
 overflow_add-w-in-loop-w-2 c =
-    let small = adds_small c.loop-w.invariant.0 (λ i. omega (arith, c.shared_slice_known-in-loop-w-2-1.given i)) in
+    let small = adds_small c.loop-w.invariant.0 (λ i. omega (arith, c.type_inv.s i)) in
     omega (arith, small, c.requires.1, c.wide-in-loop-w.ensures.1)
 
 pub loop-w-preserved : goal.loop-w-preserved
@@ -32,7 +28,7 @@ loop-w-preserved c =
     let h = c.loop-w.invariant in
     let n = adds_next h.0 c.requires.0 c.loop-w-test.true in (
       rw (c.wide.ensures.0, c.wide-in-loop-w.ensures.0) n,
-      skipped_more h.1 h.0 (fails c.fits2.ensures c.if-fits.false),
+      skipped_more h.1 h.0 (fails c.fits.ensures c.if-fits.false),
     )
 
 pub returns : goal.returns

@@ -1,11 +1,7 @@
 -- `next_fit`: the window is that of its start, and no start passed over fits.
 use Prim.Native.Nat.{◌-◌}
-use borrow.Author.Rules.{rules}
-use native.Mathlib.Omega.{arith}
 use lib.ListN.{length}
-use Rattle.words.proofs.Deciding.{fails}
 use Rattle.windows.specs.Windows.{Windowed, Skipped}
-use Rattle.windows.proofs.Adding.{adds_small, first_in, adds_next, skipped_none, skipped_more}
 use Rattle.windows.proofs.fitting.next_fit.Given as goal
 
 abbrev pub invariant-loop-w : goal.invariant-loop-w

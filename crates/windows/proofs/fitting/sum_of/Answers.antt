@@ -1,10 +1,8 @@
 -- `sum_of`: the sum so far is that of the bands passed.
-use mathlib.Core.Path.{◌≡◌, refl, ap, ◌∙◌}
-use Prim.Native.Nat.{◌-◌, ◌*◌, ◌≤◌}
+use mathlib.Core.Path.{refl, ap, ◌∙◌}
 use borrow.Author.Rules.{rules}
 use native.Mathlib.Numerals.{add-one}
 use native.Mathlib.Omega.{arith}
-use lib.ListN.{length, take}
 use lib.Seq.{take_all}
 use Rattle.words.specs.Ways.{way_of}
 use Rattle.words.proofs.Ways.{way_size}

@@ -1,0 +1,10 @@
+-- `read_whole`: what is read stands behind what was read before, so it counts bytes of the buffer; each turn reads at least
+-- one more.
+use Rattle.std.proofs.Common.{length, ◌-◌, ◌≤◌}
+use Rattle.files.proofs.read_whole.Given as goal
+
+abbrev pub invariant-loop-done : goal.invariant-loop-done
+invariant-loop-done g l = l.done ≤ length l.buffer
+
+abbrev pub decreases-loop-done : goal.decreases-loop-done
+decreases-loop-done g l = length l.buffer - l.done

@@ -1,3 +1,0 @@
--- Laws that the walks cite.
-pub mod Row
-pub mod Findings
