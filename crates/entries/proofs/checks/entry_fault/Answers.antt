@@ -34,4 +34,4 @@ returns-then-sizes-ge-MOST_CODES c =
 pub returns : goal.returns
 returns c =
     last (goal.at.returns c).Else-is_taken
-    (lt-leb 128 (length c.args.sizes.now) (omega (arith, c.if-sizes-ge-MOST_CODES.false)))
+    (lt-leb 128 (length c.args.sizes.now) (omega arith))
