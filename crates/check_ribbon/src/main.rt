@@ -3,7 +3,6 @@
 #![tactic(auto)]
 
 use ribbons::{MOST_FILE_BYTES, MOST_SUPPLIED_BANDS};
-use std::io;
 
 // one byte more shows that a file is too long
 const LIST_ROOM: usize = MOST_FILE_BYTES + 1;
@@ -11,12 +10,13 @@ const LIST_ROOM: usize = MOST_FILE_BYTES + 1;
 // and one more than CR LF, which is no part of the ribbon
 const RIBBON_ROOM: usize = MOST_SUPPLIED_BANDS + 3;
 
-fn main(rt: HostRuntime) -> io::Result<()> {
+fn main(rt: HostRuntime) {
     let mut list = [0u8; LIST_ROOM];
     let n = files::read_named(&rt, 1, &mut list);
     let mut ribbon = [0u8; RIBBON_ROOM];
     let m = files::read_named(&rt, 2, &mut ribbon);
     let mut out = [0u8; 32];
     let k = ribbons::check_output(&list[..n], &ribbon[..m], &mut out);
-    rt.write_all(&out[..k])
+    // a failed write is passed over: ./run says where nothing came out
+    let _ = rt.write_all(&out[..k]);
 }

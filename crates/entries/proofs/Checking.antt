@@ -1,14 +1,14 @@
 -- A row that was read, with its fault: 2 where it breaks the grammar, 3 where it has not two fields, else that of its
 -- fields.
-use mathlib.Core.Path.{◌≡◌, sym, ◌∙◌}
+use mathlib.Core.Path.{◌≡◌, sym, ap, ◌∙◌}
 use mathlib.Core.Logic.{◌≢◌}
 use mathlib.Core.Bool.{Bool, true, false, not, ◌&&◌}
 use mathlib.Core.List.{List}
-use Prim.Native.Nat.{ℕ, ◌+◌}
+use Prim.Native.Nat.{ℕ, ◌+◌, ◌≤◌, ◌<◌}
 use native.Mathlib.Omega.{arith}
 use lib.Dec.{eqb, ltb, leb}
 use lib.ListN.{length, drop}
-use borrow.Author.Tests.{eq-eqb, ne_eqb}
+use borrow.Author.Tests.{eq-eqb, ne_eqb, le-ltb, le-leb, lt-leb}
 use Rattle.words.specs.Tests.{same}
 use Rattle.lists.specs.Refusals.{broken_row_number, wrong_width_number, wrong_heading_number, bad_name_number}
 use Rattle.lists.specs.Refusals.{no_bands_number, long_code_number, unknown_colour_number}
@@ -20,7 +20,8 @@ use Rattle.grammar.specs.Orders.{name_in, code_in, head_fault_lem, entry_fault_l
 use Rattle.rows.specs.Scans.{part_of, ReadsRow}
 use Rattle.entries.specs.Gathering.{fields_fault_lem, ChecksRow}
 use Rattle.rows.specs.declared.scan.RowRead.{RowRead}
-use Rattle.lists.proofs.Runs.{up_to, part_to}
+use Rattle.lists.specs.Runs.{codes_in}
+use Rattle.lists.proofs.Runs.{up_to, part_to, codes_count}
 
 module _ (ofTwo : List ℕ → List ℕ → ℕ) (x : Row) where
   fault_broken : x.good ≡ false → row_fault ofTwo x ≡ broken_row_number
@@ -92,6 +93,20 @@ pub entry_fault_by : (ns : List (List ℕ)) (n c : List ℕ) {name empty long ba
     → eqb (length c) 0 ≡ empty → ltb 64 (length c) ≡ long → all_bands_lem c ≡ bands → is_in n ns ≡ taken
     → leb 128 (length ns) ≡ full → by_tests name empty long bands taken full ≡ entry_fault_lem ns n c
 entry_fault_by ns n c h1 h2 h3 h4 h5 h6 = sym (cc)
+
+-- Where each test but the last is passed: the list is full, or there is no fault.
+module _ (run ls n c : List ℕ) (named : name_ok_lem n ≡ true) (some : length c ≢ 0) (short : length c ≤ 64)
+    (banded : all_bands_lem c ≡ true) (new : is_in n (codes_in run ls) ≡ false) where
+  last_test : {full : Bool} → leb 128 (length ls) ≡ full → when full list_full_number ≡ entry_fault_lem (codes_in run ls) n c
+  last_test h =
+      entry_fault_by (codes_in run ls) n c named (ne_eqb _ _ some) (le-ltb _ _ short) banded new
+      (ap (leb 128) (codes_count run ls) ∙ h)
+
+  pub full_fault : 128 ≤ length ls → 10 ≡ entry_fault_lem (codes_in run ls) n c
+  full_fault h = last_test (le-leb 128 (length ls) h)
+
+  pub no_fault : length ls < 128 → 0 ≡ entry_fault_lem (codes_in run ls) n c
+  no_fault h = last_test (lt-leb 128 (length ls) h)
 
 pub head_fault_by : (n c : List ℕ) {a b : Bool} → same n word_name ≡ a → same c word_code ≡ b
     → when (not (a && b)) wrong_heading_number ≡ head_fault_lem n c

@@ -94,6 +94,7 @@ fn head_fault(name: &[u8], code: &[u8]) -> u8
 }
 
 // The lowest of 5 to 10.
+#[tactic(auto, using(crate::proofs::Checking::full_fault, crate::proofs::Checking::no_fault))]
 fn entry_fault(name: &[u8], code: &[u8], names: &[u8], sizes: &[u16]) -> u8
     requires { total sizes.now ≤ length names.now }
     ensures { result ≡ entry_fault_lem (codes_in names.now sizes.now) name.now code.now }

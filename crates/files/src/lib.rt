@@ -3,7 +3,7 @@
 
 ghost use Rattle.std.specs.Prelude.{◌≡◌, ◌≤◌, length, take};
 
-use std::fs;
+use std::fs::OpenOptions;
 use std::io::Read;
 use std::rt::{Env, Files};
 
@@ -31,7 +31,8 @@ pub fn read_whole(file: &mut impl Read, buffer: &mut [u8]) -> usize
 
 // The bytes of the file that the argument of this number names, as many as the buffer takes; how many. A file that isn't
 // named or can't be opened counts as one of 0 bytes; so does one whose name isn't UTF-8, since std opens no such file.
-pub fn read_named(rt: &(impl Env + Files), argument: usize, buffer: &mut [u8]) -> usize
+// The handle is the system's own and no bound, so that a program rests on no more calls of the system than it makes.
+pub fn read_named(rt: &HostRuntime, argument: usize, buffer: &mut [u8]) -> usize
     ensures within { result ≤ length buffer.new }
     ensures front { result ≡ length (take result buffer.new) }
 {
@@ -43,7 +44,7 @@ pub fn read_named(rt: &(impl Env + Files), argument: usize, buffer: &mut [u8]) -
     let Ok(name) = str::from_utf8(&path[..n]) else {
         return 0;
     };
-    let Ok(mut file) = fs::open(rt, name) else {
+    let Ok(mut file) = rt.open_file(OpenOptions::new().read(true), name) else {
         return 0;
     };
     read_whole(&mut file, buffer)

@@ -1,6 +1,7 @@
 -- From what was gathered to the outcome: refused, or a buffer too short, or the words written into the lent buffers.
 use mathlib.Core.Path.{◌≡◌, refl, sym, ap, ◌∙◌}
 use mathlib.Core.Logic.{inl, inr, ◌≢◌}
+use mathlib.Core.Bool.{true}
 use mathlib.Core.List.{List}
 use Prim.Native.Nat.{ℕ, zero, suc, ◌+◌, ◌≤◌, ◌<◌}
 use native.Mathlib.Omega.{arith}
@@ -8,7 +9,7 @@ use lib.Dec.{ltb, eqb-suc-zero}
 use borrow.Author.Tests.{lt-ltb, le-ltb, eq-eqb}
 use lib.ListN.{length, take, length-map}
 use lib.Seq.{length-take-le}
-use Rattle.words.specs.Decides.{Decides}
+use Rattle.words.specs.Decides.{Decides, yes}
 use Rattle.words.proofs.Deciding.{decides_via, is_lt, not_lt}
 use Rattle.lists.specs.Refusals.{refusal, long_file_number, wrong_heading_number}
 use Rattle.lists.specs.Runs.{flat, lengths, over}
@@ -32,7 +33,8 @@ refused_as : (b : Lent) (n l : ℕ) (ns cs : List (List ℕ)) → n ≢ 0
 refused_as b zero l ns cs h = absurd (h refl)
 refused_as b (suc n) l ns cs h = cc (eqb-suc-zero n)
 
--- Whether a buffer is too short: the last test decides where the others find none, and where none is all of them suffice.
+-- Whether a buffer is too short: a test that finds one decides, the last does where the others find none, and where none
+-- is all of them suffice.
 module _ (all : Gathered) {bands ls names sizes : ℕ} where
   pub lacks_last : all.bands ≤ bands → all.codes ≤ ls → all.names ≤ names
       → Decides (Lacks all bands ls names sizes) (ltb sizes all.codes)
@@ -43,6 +45,9 @@ module _ (all : Gathered) {bands ls names sizes : ℕ} where
       last (inr (inl m)) = absurd (omega arith)
       last (inr (inr (inl m))) = absurd (omega arith)
       last (inr (inr (inr m))) = m
+
+  pub lacks_some : Lacks all bands ls names sizes → Decides (Lacks all bands ls names sizes) true
+  lacks_some h = yes h
 
   pub none_lacks : (Lacks all bands ls names sizes → ⊥)
       → (all.bands ≤ bands) × (all.codes ≤ ls) × (all.names ≤ names) × (all.codes ≤ sizes)

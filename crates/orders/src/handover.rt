@@ -20,6 +20,7 @@ pub fn refused(number: u8, row: u32) -> Read
 }
 
 // Whether a buffer is too short for what was gathered: they have room for so many bands, lengths, bytes of names and sizes.
+#[tactic(auto, using(crate::proofs::HandingOver::lacks_some, crate::proofs::HandingOver::lacks_last))]
 fn lacks(all: Gathered, bands: usize, lengths: usize, names: usize, sizes: usize) -> bool
     ensures { Decides (Lacks all bands lengths names sizes) result }
 {

@@ -15,7 +15,7 @@ pub struct Recorded {
     pub places: [Place; MOST_RECORDS],
 }
 
-// Checks a ribbon into the first records of a row, so many. Proved by a walk of its MIR.
+// Checks a ribbon into the first records of a row, so many.
 pub fn check_front(
     bands: &[u8],
     lengths: &[u16],

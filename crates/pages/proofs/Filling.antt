@@ -1,6 +1,6 @@
 -- What a writer's texts are on its slice. Texts one after the other are one text; no text changes nothing; and the slice
 -- stays as long as it was.
-use mathlib.Core.Path.{◌≡◌, refl}
+use mathlib.Core.Path.{◌≡◌, refl, ◌∙◌}
 use mathlib.Core.List.{List, [], ◌++◌}
 use Prim.Native.Nat.{ℕ, ◌+◌, ◌≤◌}
 use native.Mathlib.Omega.{arith}
@@ -13,18 +13,18 @@ use Rattle.pages.specs.declared.page.Writer.{Writer}
 use Rattle.pages.specs.Pages.{PutsSheet}
 use Rattle.pages.specs.Filled.{put_at, filled}
 
-put_written : (row : List ℕ) (at : ℕ) (s : List ℕ) → Written row at s (put_at row at s) (at + length s)
+pub put_written : (row : List ℕ) (at : ℕ) (s : List ℕ) → Written row at s (put_at row at s) (at + length s)
 put_written row at s = record { after_is = refl; end_is = refl }
 
 pub put_at_length : (row s : List ℕ) (at : ℕ) → at + length s ≤ length row → length (put_at row at s) ≡ length row
 put_at_length row s at h = written_length h (put_written row at s)
 
--- two texts from the beginning on
-pub both_put : (row a b : List ℕ) {after : List ℕ} {end : ℕ} → Written (put_at row 0 a) (0 + length a) b after end
-    → PutsSheet (a ++ b) row after end
-both_put row a b w =
-    let all = written_over (both_written (omega arith) (put_written row 0 a) w) in
-    record { long = all.0; left = all.1 }
+-- two texts from the beginning on, on a buffer that is left as the second text leaves it
+pub both_put : {row a b mid after left : List ℕ} {k end : ℕ} → Written row 0 a mid k → Written mid k b after end → left ≡ after
+    → PutsSheet (a ++ b) row left end
+both_put v w e =
+    let all = written_over (both_written (omega arith) v w) in
+    record { long = all.0; left = e ∙ all.1 }
 
 -- no text
 pub filled_none : (w : Writer) → filled w [] ≡ w

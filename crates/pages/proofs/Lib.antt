@@ -1,6 +1,3 @@
--- What the walks of the writer share, and the laws of what it has written.
-pub mod Again
-pub mod Held
-pub mod Passed
+-- The laws of what the writer has written.
 pub mod Filling
 pub mod RowByRow

@@ -1,5 +1,5 @@
 // The sheet, row after row, through a writer. Functions of sheet_rows do the writing; those here carry the writer from one to
-// the next, each proved by a walk of its MIR.
+// the next.
 ghost use Rattle.std.specs.Prelude.{◌≡◌, ◌+◌, ◌<◌, ◌≤◌, length};
 ghost use Rattle.words.specs.Written.{Written};
 ghost use Rattle.lists.specs.Runs.{codes_in};
@@ -38,6 +38,15 @@ fn heading<'a>(w: Writer<'a>) -> Writer<'a>
     }
 }
 
+// The heading row is written at the beginning of a buffer; the answer is the writer behind it, on that same buffer.
+fn headed<'a>(out: &'a mut [u8]) -> Writer<'a>
+    requires { 29 ≤ length out.old }
+    ensures same_reference { result.out.ghost_name ≡ out.entry.ghost_name }
+    ensures written { Written out.old 0 (row_text sheet_heading) result.out.now result.mark }
+{
+    heading(begin(out))
+}
+
 // The row of code i is written at the mark, and the mark moves behind it.
 fn row<'a>(
     w: Writer<'a>,
@@ -59,6 +68,30 @@ fn row<'a>(
     }
 }
 
+// The rows of all codes are written on a buffer from a place on, one after the other; the answer is the writer behind them, on
+// that same buffer.
+fn put_rows<'a>(
+    out: &'a mut [u8],
+    mark: usize,
+    names: &[u8],
+    sizes: &[u16],
+    lengths: &[u16],
+    shown: [Shown; MOST_CODES],
+    ribbon: &[u8],
+) -> Writer<'a>
+    requires { RowsThere names.now sizes.now lengths.now shown ribbon.now × (mark + length (placed_rows (codes_in names.now sizes.now) lengths.now shown ribbon.now) ≤ length out.old) }
+    ensures same_reference { result.out.ghost_name ≡ out.entry.ghost_name }
+    ensures written { Written out.old mark (placed_rows (codes_in names.now sizes.now) lengths.now shown ribbon.now) result.out.now result.mark }
+{
+    let mut page = Writer { out, mark };
+    let mut i = 0;
+    while i < lengths.len() {
+        page = row(page, names, sizes, lengths, shown, ribbon, i);
+        i += 1;
+    }
+    page
+}
+
 // The rows of all codes are written from the mark on, one after the other; the answer is the place behind them.
 fn rows<'a>(
     w: Writer<'a>,
@@ -71,12 +104,8 @@ fn rows<'a>(
     requires { RowsThere names.now sizes.now lengths.now shown ribbon.now × (w.mark + length (placed_rows (codes_in names.now sizes.now) lengths.now shown ribbon.now) ≤ length w.out.now) }
     ensures { Written w.entry.out.now w.entry.mark (placed_rows (codes_in names.now sizes.now) lengths.now shown ribbon.now) w.exit.0.now result }
 {
-    let mut page = w;
-    let mut i = 0;
-    while i < lengths.len() {
-        page = row(page, names, sizes, lengths, shown, ribbon, i);
-        i += 1;
-    }
+    let Writer { out, mark } = w;
+    let page = put_rows(out, mark, names, sizes, lengths, shown, ribbon);
     page.mark
 }
 
@@ -92,6 +121,6 @@ pub fn put_sheet(
     requires { RowsThere names.now sizes.now lengths.now shown ribbon.now × (length (placed_sheet (codes_in names.now sizes.now) lengths.now shown ribbon.now) ≤ length out.old) }
     ensures { PutsSheet (placed_sheet (codes_in names.now sizes.now) lengths.now shown ribbon.now) out.old out.new result }
 {
-    let w = heading(begin(out));
+    let w = headed(out);
     rows(w, names, sizes, lengths, shown, ribbon)
 }

@@ -2,7 +2,6 @@
 #![tactic(auto)]
 
 use ribbons::{MOST_BANDS, MOST_FILE_BYTES};
-use std::io;
 
 // one byte more shows that a file is too long
 const ROOM: usize = MOST_FILE_BYTES + 1;
@@ -10,10 +9,11 @@ const ROOM: usize = MOST_FILE_BYTES + 1;
 // a ribbon and CR LF
 const LINE: usize = MOST_BANDS + 2;
 
-fn main(rt: HostRuntime) -> io::Result<()> {
+fn main(rt: HostRuntime) {
     let mut file = [0u8; ROOM];
     let n = files::read_whole(&mut rt.stdin(), &mut file);
     let mut out = [0u8; LINE];
     let k = ribbons::ribbon_output(&file[..n], &mut out);
-    rt.write_all(&out[..k])
+    // a failed write is passed over: ./run says where nothing came out
+    let _ = rt.write_all(&out[..k]);
 }

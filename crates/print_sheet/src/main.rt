@@ -2,15 +2,15 @@
 #![tactic(auto)]
 
 use ribbons::{MOST_FILE_BYTES, MOST_SHEET_BYTES};
-use std::io;
 
 // one byte more shows that a file is too long
 const ROOM: usize = MOST_FILE_BYTES + 1;
 
-fn main(rt: HostRuntime) -> io::Result<()> {
+fn main(rt: HostRuntime) {
     let mut file = [0u8; ROOM];
     let n = files::read_whole(&mut rt.stdin(), &mut file);
     let mut out = [0u8; MOST_SHEET_BYTES];
     let k = ribbons::sheet_output(&file[..n], &mut out);
-    rt.write_all(&out[..k])
+    // a failed write is passed over: ./run says where nothing came out
+    let _ = rt.write_all(&out[..k]);
 }

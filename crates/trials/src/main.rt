@@ -17,7 +17,7 @@ use std::rt::Env;
 const ROOM: usize = 131072;
 
 // The first letter of the first argument, which tells what texts are printed; 0 if there is none.
-fn mode(rt: &impl Env) -> u8 {
+fn mode(rt: &HostRuntime) -> u8 {
     let mut argument = [0u8; 4096];
     let _ = rt.arg(1, &mut argument);
     argument[0]

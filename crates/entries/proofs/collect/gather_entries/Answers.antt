@@ -6,7 +6,7 @@ use native.Mathlib.Omega.{arith}
 use lib.ListN.{length-set}
 use lib.Seq.{length-take-le}
 use Rattle.entries.proofs.Filing.{filed_total}
-use Rattle.entries.proofs.Gathering.{begins, bad_entry, small, goes_on, no_entries, gathered, gathers_bad}
+use Rattle.entries.proofs.Gathering.{begins, bad_entry, small, goes_on, gathered, gathers_bad}
 use Rattle.entries.proofs.collect.gather_entries.Goals as goal
 use Rattle.entries.proofs.collect.gather_entries.Goals.{Else-fault-ne0}
 
@@ -71,10 +71,5 @@ loop-at-preserved c =
       },
     )
 
-pub returns-then-count-eq0 : goal.returns-then-count-eq0
-returns-then-count-eq0 c =
-    gathers_bad _ _ _ _ (no_entries c.loop-at.invariant.0 c.loop-at-test.false (omega (arith, c.if-count-eq0.true)))
-    (λ e. omega arith) c.refused-then-count-eq0.ensures
-
 pub returns : goal.returns
-returns c = gathered c.loop-at.invariant.0 c.loop-at-test.false c.if-count-eq0.false
+returns c = gathered c.loop-at.invariant.0 c.loop-at-test.false (λ e. omega arith)

@@ -1,0 +1,36 @@
+-- `write_laid`: by its size the sheet is too long for the buffer, or it is written.
+use native.Mathlib.Omega.{arith}
+use borrow.Author.Rules.{rules}
+use Rattle.writer.proofs.Stages.{ribbon_short, each_placed, there, size_short, sheet_short, sheet_written}
+use Rattle.writer.proofs.write_laid.Goals as goal
+
+pub find_places-sought-requires : goal.find_places-sought-requires
+find_places-sought-requires c =
+    let p = c.requires in
+    (p.list_fits, ribbon_short p)
+
+pub show_codes-shown-requires : goal.show_codes-shown-requires
+show_codes-shown-requires c =
+    let p = c.requires in
+    (p.list_fits, ribbon_short p, each_placed p c.find_places-sought.ensures)
+
+pub sheet_size-size-requires : goal.sheet_size-size-requires
+sheet_size-size-requires c = there c.requires c.show_codes-shown.ensures
+
+pub returns-then-out-size : goal.returns-then-out-size
+returns-then-out-size c =
+    let a = c.args in
+    sheet_short c.requires c.show_codes-shown.ensures c.sheet_size-size.ensures a.saved a.out.now
+    c.if-out-size.true c.refused.ensures
+
+pub put_sheet-requires : goal.put_sheet-requires
+put_sheet-requires c = (there c.requires c.show_codes-shown.ensures, omega (arith, c.sheet_size-size.ensures, c.if-out-size.false))
+
+pub overflow_cast-result : goal.overflow_cast-result
+overflow_cast-result c = omega (arith, size_short c.requires c.show_codes-shown.ensures c.sheet_size-size.ensures)
+
+pub returns : goal.returns
+returns c =
+    let a = c.args in
+    sheet_written c.requires c.show_codes-shown.ensures c.sheet_size-size.ensures a.saved a.out.now c.if-out-size.false
+    c.put_sheet.ensures
