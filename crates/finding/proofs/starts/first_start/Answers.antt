@@ -40,7 +40,7 @@ go_on-m-requires c =
 pub starts-preserved-then-j-eq0 : goal.starts-preserved-then-j-eq0
 starts-preserved-then-j-eq0 c = (
   omega arith,
-  seeking_next (as_long c.args.c.now) c.loop-j.invariant.2 c.loop-j-test.true c.if-m-n.false (omega arith) refl
+  seeking_next (as_long c.args.c.now) c.loop-j.invariant.2 c.loop-j-test.true (omega arith) (omega arith) refl
       c.go_on-m.ensures c.if-j-eq0.true c.if-c-j.true,
   c.next_fit-w.ensures.0,
 )
@@ -48,7 +48,7 @@ starts-preserved-then-j-eq0 c = (
 pub starts-preserved : goal.starts-preserved
 starts-preserved c =
     let g = c.requires.given.each c.loop-j.j (omega (arith, c.if-j-eq0.false)) (omega (arith, c.loop-j-test.true)) in
-    let q = seeking_fall (as_long c.args.c.now) c.loop-j.invariant.2 c.loop-j-test.true c.if-m-n.false (omega arith) c.if-c-j.true g in
+    let q = seeking_fall (as_long c.args.c.now) c.loop-j.invariant.2 c.loop-j-test.true (omega arith) (omega arith) c.if-c-j.true g in
     (q.both.given.within, q, c.next_fit-w.ensures.0)
 
 pub go_on-m-requires-in-loop-j : goal.go_on-m-requires-in-loop-j
@@ -60,7 +60,7 @@ pub loop-j-preserved : goal.loop-j-preserved
 loop-j-preserved c = (
   c.loop-j.invariant.0,
   omega arith,
-  seeking_more (as_long c.args.c.now) c.loop-j.invariant.2 c.loop-j-test.true c.if-m-n.false (omega arith) refl
+  seeking_more (as_long c.args.c.now) c.loop-j.invariant.2 c.loop-j-test.true (omega arith) (omega arith) refl
       c.go_on-m-in-loop-j.ensures c.if-c-j.false,
 )
 
@@ -69,7 +69,7 @@ returns-then-m-n c = seeking_turned (as_long c.args.c.now) c.loop-j.invariant.2 
 
 pub returns-then-end-s : goal.returns-then-end-s
 returns-then-end-s c =
-    seeking_nowhere (as_long c.args.c.now) c.loop-j.invariant.2 c.loop-j-test.true c.if-m-n.false c.if-end-s.true
+    seeking_nowhere (as_long c.args.c.now) c.loop-j.invariant.2 c.loop-j-test.true (omega arith) c.if-end-s.true
 
 pub returns-after-loop-j : goal.returns-after-loop-j
 returns-after-loop-j c = seeking_given (as_long c.args.c.now) c.loop-j.invariant.2 c.loop-j-test.false
