@@ -84,7 +84,7 @@ abbrev SheetNumber : SheetAnswer → Type 0
 SheetNumber (sheets.refused r) = In r.number (numbers_of write_sheet)
 SheetNumber (sheets.written bytes saved) = Unit {0}
 
-sheet_number : {run ls name_run name-ls before : List ℕ} {o : SheetOutcome} → SheetsInto run ls name_run name-ls before o
+sheet_number : {run ls name_run name_ls before : List ℕ} {o : SheetOutcome} → SheetsInto run ls name_run name_ls before o
     → SheetNumber o.answer
 sheet_number (sheets.false_list f) = inl refl
 sheet_number (sheets.short_buffer f s l) = inr (inl refl)

@@ -43,8 +43,8 @@ pub data Refuses : Call → ℕ → Type 0 where
       → ChecksInRoom run ls row room (check.Refused r) due all → Refuses check_places r.number
   alone : {run ls row : List ℕ} {r : Refusal} → ChecksAlone run ls row (check.Refused r)
       → Refuses check_only r.number
-  writing : {run ls name_run name-ls before after : List ℕ} {r : Refusal}
-      → WritesSheet run ls name_run name-ls before after (write.Refused r) → Refuses write_sheet r.number
+  writing : {run ls name_run name_ls before after : List ℕ} {r : Refusal}
+      → WritesSheet run ls name_run name_ls before after (write.Refused r) → Refuses write_sheet r.number
   printing_ribbon : (list : List ℕ) {before after : List ℕ} {r n row : ℕ} → WritesOver (ribbon_output_lem list) before after r
       → RefusedLine n row (take r after) → Refuses ribbon_output n
   printing_sheet : (list : List ℕ) {before after : List ℕ} {r n row : ℕ} → WritesOver (sheet_output_lem list) before after r

@@ -105,8 +105,8 @@ all_demands =
       pinned = pinned;
       no_freedom = no_freedom;
       accepted = λ run ls buffer ok room. accepts run ls buffer ok (omega (arith, ribbon_at_most run ls ok));
-      accepted_sheet = λ run ls name_run name-ls buffer ok named room.
-          sheet-accepts run ls name_run name-ls ok named buffer room;
+      accepted_sheet = λ run ls name_run name_ls buffer ok named room.
+          sheet-accepts run ls name_run name_ls ok named buffer room;
       always_allowed = always_allowed;
       rounds_end = always_end;
       numbers = numbers;

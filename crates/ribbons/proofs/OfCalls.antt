@@ -94,18 +94,18 @@ abbrev saved_in : SheetAnswer → ℕ
 saved_in (sheet.refused r) = 0
 saved_in (written bytes saved) = saved
 
-module _ (run ls name_run name-ls before after : List ℕ) (bytes saved : ℕ) where
+module _ (run ls name_run name_ls before after : List ℕ) (bytes saved : ℕ) where
   abbrev Is : Type 0
-  Is = SheetIs run ls name_run name-ls before after bytes saved
+  Is = SheetIs run ls name_run name_ls before after bytes saved
 
-  sheet_is : {o : SheetOutcome} → SheetsInto run ls name_run name-ls before o → bytes_in o.answer ≡ suc bytes
+  sheet_is : {o : SheetOutcome} → SheetsInto run ls name_run name_ls before o → bytes_in o.answer ≡ suc bytes
       → saved_in o.answer ≡ saved → after ≡ o.after → Is
   sheet_is (sheet.false_list f) b s a = absurd (omega arith)
   sheet_is (sheet.short_buffer f x l) b s a = absurd (omega arith)
   sheet_is (sheet.filled {ribbon} {sheet = t} f x l) b s a =
       let C = holds (is_fit_list run ls) (passes (codes_checked run ls) (λ h. f (inl h))) in
-      let N = holds (is_fit_names (length ls) name_run name-ls)
-      (passes (names_checked (length ls) name_run name-ls) (λ h. f (inr h))) in
+      let N = holds (is_fit_names (length ls) name_run name_ls)
+      (passes (names_checked (length ls) name_run name_ls) (λ h. f (inr h))) in
       let laid = subst (λ (k : ℕ). Lays Chosen turned (codes_in run ls) ribbon k) s x.lays in
       record {
         ribbon = ribbon;
@@ -115,11 +115,11 @@ module _ (run ls name_run name-ls before after : List ℕ) (bytes saved : ℕ) w
         by_rule = laid;
         shows = x.shows;
         read_back =
-            reads_back x.shows (each_map NameRule (Each Printed) (λ c r. r.2) (codes_in name_run name-ls) N.named)
+            reads_back x.shows (each_map NameRule (Each Printed) (λ c r. r.2) (codes_in name_run name_ls) N.named)
             (each_map CodeRule (Each Band) (λ c r. r.2) (codes_in run ls) C.coded);
         at_most_twice = lays_twice turning (chosen_largest laid);
       }
 
 pub sheet_is_true : SheetIsTrue
-sheet_is_true run ls name_run name-ls before after bytes saved p =
-    sheet_is run ls name_run name-ls before after bytes saved p.means refl refl refl
+sheet_is_true run ls name_run name_ls before after bytes saved p =
+    sheet_is run ls name_run name_ls before after bytes saved p.means refl refl refl

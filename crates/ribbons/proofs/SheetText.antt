@@ -17,26 +17,26 @@ use Rattle.writer.specs.declared.Wrote.TheVariants.{Refused, Sheet}
 use Rattle.programs.specs.Programs.{WritesOver}
 use Rattle.ribbons.proofs.Outputs.{writes_over}
 
-module _ (run ls name_run name-ls before : List ℕ) {after : List ℕ} {r : Wrote} (p : WritesSheet run ls name_run name-ls before after r)
-    (ok : list_ok_lem run ls ≡ true) (named : names_ok_lem (length ls) name_run name-ls ≡ true) (room : 17181 ≤ length before) where
+module _ (run ls name_run name_ls before : List ℕ) {after : List ℕ} {r : Wrote} (p : WritesSheet run ls name_run name_ls before after r)
+    (ok : list_ok_lem run ls ≡ true) (named : names_ok_lem (length ls) name_run name_ls ≡ true) (room : 17181 ≤ length before) where
   abbrev sheet : List ℕ
-  sheet = sheet_for run ls name_run name-ls
+  sheet = sheet_for run ls name_run name_ls
 
   left_is : after ≡ over sheet before
   left_is =
-      let l = le-ltb (length before) (length sheet) (omega (arith, sheet_at_most run ls name_run name-ls ok named)) in
+      let l = le-ltb (length before) (length sheet) (omega (arith, sheet_at_most run ls name_run name_ls ok named)) in
       p.left ∙ rw (sheet_outcome, ok, named, l)
 
-  told : {x : Wrote} → r ≡ x → WritesSheet run ls name_run name-ls before after x
-  told e = subst (WritesSheet run ls name_run name-ls before after) e p
+  told : {x : Wrote} → r ≡ x → WritesSheet run ls name_run name_ls before after x
+  told e = subst (WritesSheet run ls name_run name_ls before after) e p
 
   pub sheet_never_refused : {x : declared.Refusal} → r ≡ Refused x → ⊥
   sheet_never_refused e =
-      let f = (told e).answer ∙ accepts run ls name_run name-ls ok named before room in
+      let f = (told e).answer ∙ accepts run ls name_run name_ls ok named before room in
       let z : ◌≡◌ {A = ℕ} 0 1 = cc in
       omega arith
 
   pub sheet_written : {n saved : ℕ} → r ≡ Sheet n saved → WritesOver sheet before after n
   sheet_written e =
-      let f = (told e).answer ∙ accepts run ls name_run name-ls ok named before room in
+      let f = (told e).answer ∙ accepts run ls name_run name_ls ok named before room in
       writes_over (cc (f)) left_is

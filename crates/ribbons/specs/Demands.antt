@@ -103,8 +103,8 @@ pub record NoFreedom : Type 0 where
       → (run ls row : List ℕ) (records : List PlaceRecord) → call run ls row records ≡ check_outcome run ls row records
   pub quoting : (write : List ℕ → List ℕ) → Writes write → (c : List ℕ) → Each Printed c → write c ≡ field_text c
   pub sheets : (call : List ℕ → List ℕ → List ℕ → List ℕ → List ℕ → SheetOutcome) → Sheets call
-      → (run ls name_run name-ls buffer : List ℕ)
-      → call run ls name_run name-ls buffer ≡ sheet_outcome run ls name_run name-ls buffer
+      → (run ls name_run name_ls buffer : List ℕ)
+      → call run ls name_run name_ls buffer ≡ sheet_outcome run ls name_run name_ls buffer
   pub ribbon_program : (program : List ℕ → List ℕ) → RibbonProgram program → (list : List ℕ)
       → program list ≡ ribbon_output_lem list
   pub sheet_program : (program : List ℕ → List ℕ) → SheetProgram program → (list : List ℕ)
@@ -141,21 +141,21 @@ pub record PassesExactly : Type 0 where
 
 -- Demand 2 of the sheet itself, and demand 3 of the saved that comes with it: what is written is a sheet of the ribbon that
 -- is laid out by the rules, so that each place on it is true; read back, it gives the names and places of all codes.
-pub record SheetIs (run ls name_run name-ls before after : List ℕ) (bytes saved : ℕ) : Type 0 where
+pub record SheetIs (run ls name_run name_ls before after : List ℕ) (bytes saved : ℕ) : Type 0 where
   pub ribbon : List ℕ
   pub sheet : List ℕ
   pub is_long : length sheet ≡ bytes
   pub written : after ≡ over sheet before
   pub by_rule : Lays Chosen turned (codes_in run ls) ribbon saved
-  pub shows : SheetFor (codes_in name_run name-ls) (codes_in run ls) ribbon sheet
-  pub read_back : ReadsBack (codes_in name_run name-ls) (codes_in run ls) ribbon sheet
+  pub shows : SheetFor (codes_in name_run name_ls) (codes_in run ls) ribbon sheet
+  pub read_back : ReadsBack (codes_in name_run name_ls) (codes_in run ls) ribbon sheet
   pub at_most_twice : AtMostTwice turned (codes_in run ls) saved
 
 abbrev pub SheetIsTrue : Type 0
 SheetIsTrue =
-    (run ls name_run name-ls before after : List ℕ) (bytes saved : ℕ)
-    → WritesSheet run ls name_run name-ls before after (Sheet bytes saved)
-    → SheetIs run ls name_run name-ls before after bytes saved
+    (run ls name_run name_ls before after : List ℕ) (bytes saved : ℕ)
+    → WritesSheet run ls name_run name_ls before after (Sheet bytes saved)
+    → SheetIs run ls name_run name_ls before after bytes saved
 
 pub record Demands : Type 0 where
   -- 1. Nothing unfit is accepted, and what is refused leaves lent memory untouched: `reading`, `laying`, `checking` and
@@ -167,10 +167,10 @@ pub record Demands : Type 0 where
   pub accepted : (run ls buffer : List ℕ) → list_ok_lem run ls ≡ true → 8192 ≤ length buffer
       → (lay_outcome run ls buffer).answer
       ≡ laid (length (ribbon_for turned (codes_in run ls))) (saved_by turned (codes_in run ls))
-  pub accepted_sheet : (run ls name_run name-ls buffer : List ℕ) → list_ok_lem run ls ≡ true
-      → names_ok_lem (length ls) name_run name-ls ≡ true → 17181 ≤ length buffer
-      → (sheet_outcome run ls name_run name-ls buffer).answer
-      ≡ written (length (sheet_for run ls name_run name-ls)) (saved_by turned (codes_in run ls))
+  pub accepted_sheet : (run ls name_run name_ls buffer : List ℕ) → list_ok_lem run ls ≡ true
+      → names_ok_lem (length ls) name_run name_ls ≡ true → 17181 ≤ length buffer
+      → (sheet_outcome run ls name_run name_ls buffer).answer
+      ≡ written (length (sheet_for run ls name_run name_ls)) (saved_by turned (codes_in run ls))
   pub always_allowed : AlwaysAllowed
   pub rounds_end : AlwaysEnd
   pub numbers : Numbers

@@ -124,23 +124,23 @@ abbrev WholeSheet : SheetAnswer → Type 0
 WholeSheet (sheets.refused r) = Whole r
 WholeSheet (sheets.written bytes saved) = Unit {0}
 
-whole_sheet : {run ls name_run name-ls before : List ℕ} {o : SheetOutcome} → SheetsInto run ls name_run name-ls before o
+whole_sheet : {run ls name_run name_ls before : List ℕ} {o : SheetOutcome} → SheetsInto run ls name_run name_ls before o
     → WholeSheet o.answer
 whole_sheet (sheets.false_list f) = (omega arith, refl)
 whole_sheet (sheets.short_buffer f s l) = (omega arith, refl)
 whole_sheet (sheets.filled f s l) = tt
 
-wrote_back : {run ls name_run name-ls before after : List ℕ} (a : Wrote)
-    → WritesSheet run ls name_run name-ls before after a → wrote_of (plain_wrote a) ≡ a
+wrote_back : {run ls name_run name_ls before after : List ℕ} (a : Wrote)
+    → WritesSheet run ls name_run name_ls before after a → wrote_of (plain_wrote a) ≡ a
 wrote_back (write.Refused r) m =
     let w = whole_sheet m.means in
     by_number r.number _ _ w.0 ∙ ap (λ (l : ℕ). write.Refused (record { number = r.number; row = l })) (sym w.1)
 wrote_back (write.Sheet bytes saved) m = refl
 
-pub tells_sheet : (run ls name_run name-ls before : List ℕ) {after : List ℕ} {x y : Wrote} → x ≡ y
-    → WritesSheet run ls name_run name-ls before after x
-    → TellsSheet run ls name_run name-ls before after (plain_wrote y)
-tells_sheet run ls name_run name-ls before e m = tells wrote_back e m refl
+pub tells_sheet : (run ls name_run name_ls before : List ℕ) {after : List ℕ} {x y : Wrote} → x ≡ y
+    → WritesSheet run ls name_run name_ls before after x
+    → TellsSheet run ls name_run name_ls before after (plain_wrote y)
+tells_sheet run ls name_run name_ls before e m = tells wrote_back e m refl
 
 -- The ribbon stands at the front of its file.
 front_of : {s r : List ℕ} → RibbonFile s r → take (length r) s ≡ r

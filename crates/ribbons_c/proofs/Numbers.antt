@@ -22,7 +22,7 @@ plain_numbers =
           λ run ls row r m p.
           numbers.only _ _ (alone (subst (ChecksAlone run ls row) (by_number r.refused _ _ p) m.meant));
       sheet =
-          λ run ls name_run name-ls before after r m p.
+          λ run ls name_run name_ls before after r m p.
           numbers.only _ _
-          (writing (subst (WritesSheet run ls name_run name-ls before after) (by_number r.refused _ _ p) m.meant));
+          (writing (subst (WritesSheet run ls name_run name_ls before after) (by_number r.refused _ _ p) m.meant));
     }

@@ -80,9 +80,9 @@ abbrev pub wrote_of : RibbonsSheet → Wrote
 wrote_of r =
     answer_by_number r.refused (write.Sheet r.bytes r.saved) (write.Refused (record { number = r.refused; row = 0 }))
 
-abbrev pub TellsSheet : (run ls name_run name-ls before after : List ℕ) → RibbonsSheet → Type 0
-TellsSheet run ls name_run name-ls before after =
-    Tells (WritesSheet run ls name_run name-ls before after) plain_wrote wrote_of
+abbrev pub TellsSheet : (run ls name_run name_ls before after : List ℕ) → RibbonsSheet → Type 0
+TellsSheet run ls name_run name_ls before after =
+    Tells (WritesSheet run ls name_run name_ls before after) plain_wrote wrote_of
 
 -- The ribbon's part of a ribbon file: so many bytes at its front, and what they are.
 pub record TellsRibbon (file : List ℕ) (r : ℕ) : Type 0 where

@@ -16,5 +16,5 @@ pub record PlainNumbers : Type 0 where
       → In r.refused (numbers_of lay_ribbon)
   pub checked : (run ls row : List ℕ) (r : RibbonsChecked) → TellsChecked run ls row r → 0 < r.refused
       → In r.refused (numbers_of check_only)
-  pub sheet : (run ls name_run name-ls before after : List ℕ) (r : RibbonsSheet)
-      → TellsSheet run ls name_run name-ls before after r → 0 < r.refused → In r.refused (numbers_of write_sheet)
+  pub sheet : (run ls name_run name_ls before after : List ℕ) (r : RibbonsSheet)
+      → TellsSheet run ls name_run name_ls before after r → 0 < r.refused → In r.refused (numbers_of write_sheet)

@@ -37,29 +37,29 @@ rows_are ribbon (n ∷ ns) (c ∷ cs) (s ∷ ss) l e =
     ap₂ (λ p k. row_text (field_text n ∷ place_fields ribbon (length c) p k)) f.place f.count in
     ap₂ (λ (x : List ℕ) (y : List ℕ). x ++ y) row (rows_are ribbon ns cs ss (omega arith) (λ i h. e (suc i) (omega arith)))
 
-module _ (run ls name_run name-ls : List ℕ) {ribbon : List ℕ} {ss : List Shown} (ok : list_ok_lem run ls ≡ true)
+module _ (run ls name_run name_ls : List ℕ) {ribbon : List ℕ} {ss : List Shown} (ok : list_ok_lem run ls ≡ true)
     (f : ShowsCodes run ls ribbon ss) where
   -- The sheet that is written is the sheet of the list,
   pub placed_is_sheet : ribbon ≡ ribbon_for turned (codes_in run ls)
-      → placed_sheet (codes_in name_run name-ls) ls ss ribbon ≡ sheet_for run ls name_run name-ls
+      → placed_sheet (codes_in name_run name_ls) ls ss ribbon ≡ sheet_for run ls name_run name_ls
   placed_is_sheet laid =
       let C = holds (is_fit_list run ls) ok in
       let cs = codes_in run ls in
-      let names = codes_in name_run name-ls in
+      let names = codes_in name_run name_ls in
       let l : length cs ≤ length ss = omega (arith, codes_count run ls, f.room, C.at_most) in
       let rows = rows_are ribbon names cs ss l (λ i h. f.each i (omega (arith, codes_count run ls))) in
       ap (λ n. placed_sheet names n ss ribbon) (sym C.as_long)
       ∙ ap (λ r. row_text sheet_heading ++ r) (rows ∙ ap (code_rows names cs) laid)
 
   -- and it can be written.
-  pub rows_there : names_ok_lem (length ls) name_run name-ls ≡ true → RowsThere name_run name-ls ls ss ribbon
+  pub rows_there : names_ok_lem (length ls) name_run name_ls ≡ true → RowsThere name_run name_ls ls ss ribbon
   rows_there names-ok =
       let C = holds (is_fit_list run ls) ok in
-      let N = holds (is_fit_names (length ls) name_run name-ls) names-ok in
+      let N = holds (is_fit_names (length ls) name_run name_ls) names-ok in
       record {
         few = C.at_most;
         one_each = N.one_each;
-        names_there = omega (arith, adds_up name_run name-ls N.joined N.as_long);
+        names_there = omega (arith, adds_up name_run name_ls N.joined N.as_long);
         shown_there = omega (arith, f.room, C.at_most);
         short = λ i h. (fit_size C i h).1;
         on_ribbon = λ i h. omega (arith, lies (code_at (codes_in run ls) i) ribbon (nth_shown ss i).way (f.each i h).place, code_long C i);

@@ -31,41 +31,41 @@ not_and : (a b : Bool) → not (a && b) ≡ (not a || not b)
 not_and true b = refl
 not_and false b = refl
 
-module _ (run ls name_run name-ls : List ℕ) where
+module _ (run ls name_run name_ls : List ℕ) where
   abbrev cs : List (List ℕ)
   cs = codes_in run ls
 
   abbrev names : List (List ℕ)
-  names = codes_in name_run name-ls
+  names = codes_in name_run name_ls
 
   abbrev sheet : List ℕ
-  sheet = sheet_for run ls name_run name-ls
+  sheet = sheet_for run ls name_run name_ls
 
   abbrev bad : Bool
-  bad = not (list_ok_lem run ls && names_ok_lem (length ls) name_run name-ls)
+  bad = not (list_ok_lem run ls && names_ok_lem (length ls) name_run name_ls)
 
-  is_false_list : Decides (FalseList run ls name_run name-ls) bad
+  is_false_list : Decides (FalseList run ls name_run name_ls) bad
   is_false_list =
-      let either = not_and (list_ok_lem run ls) (names_ok_lem (length ls) name_run name-ls) in
-      subst (Decides (FalseList run ls name_run name-ls)) (sym either)
-      (decides_or (is_false_codes run ls) (is_false_names (length ls) name_run name-ls))
+      let either = not_and (list_ok_lem run ls) (names_ok_lem (length ls) name_run name_ls) in
+      subst (Decides (FalseList run ls name_run name_ls)) (sym either)
+      (decides_or (is_false_codes run ls) (is_false_names (length ls) name_run name_ls))
 
   -- names that keep the rules are one a code, and of printed bytes
-  pub shows_ours : FitNames (length ls) name_run name-ls → SheetFor names cs (ribbon_for turned cs) sheet
+  pub shows_ours : FitNames (length ls) name_run name_ls → SheetFor names cs (ribbon_for turned cs) sheet
   shows_ours F =
-      let count : length names ≡ length cs = codes_count name_run name-ls ∙ F.one_each ∙ sym (codes_count run ls) in
+      let count : length names ≡ length cs = codes_count name_run name_ls ∙ F.one_each ∙ sym (codes_count run ls) in
       sheet_ours names cs count (each_map NameRule (Each Printed) (λ n r. r.2) names F.named)
 
-  sheeted_ours : (FalseList run ls name_run name-ls → ⊥)
-      → Sheeted run ls name_run name-ls (ribbon_for turned cs) sheet (saved_by turned cs)
+  sheeted_ours : (FalseList run ls name_run name_ls → ⊥)
+      → Sheeted run ls name_run name_ls (ribbon_for turned cs) sheet (saved_by turned cs)
   sheeted_ours fit =
-      let ok = passes (names_checked (length ls) name_run name-ls) (λ f. fit (inr f)) in
+      let ok = passes (names_checked (length ls) name_run name_ls) (λ f. fit (inr f)) in
       record {
         lays = lays_ours turned cs;
-        shows = shows_ours (holds (is_fit_names (length ls) name_run name-ls) ok);
+        shows = shows_ours (holds (is_fit_names (length ls) name_run name_ls) ok);
       }
 
-  sheeted_only : {ribbon t : List ℕ} {saved : ℕ} → Sheeted run ls name_run name-ls ribbon t saved
+  sheeted_only : {ribbon t : List ℕ} {saved : ℕ} → Sheeted run ls name_run name_ls ribbon t saved
       → (t ≡ sheet) × (saved ≡ saved_by turned cs)
   sheeted_only {t} x =
       let e = lays_only turned x.lays in
@@ -82,20 +82,20 @@ module _ (run ls name_run name-ls : List ℕ) where
         ]
 
     -- Ours meets it.
-    meets : {b short : Bool} → Decides (FalseList run ls name_run name-ls) b
+    meets : {b short : Bool} → Decides (FalseList run ls name_run name_ls) b
         → Decides (length buffer < length sheet) short
-        → SheetsInto run ls name_run name-ls buffer (by_tests b short)
+        → SheetsInto run ls name_run name_ls buffer (by_tests b short)
     meets (yes f) d = false_list f
     meets (no fit) (yes l) = short_buffer fit (sheeted_ours fit) l
     meets (no fit) (no l) = filled fit (sheeted_ours fit) (not_lt l)
 
     -- Nothing else does: each case is the one of ours.
     pub if_tests : {b short : Bool} → bad ≡ b → ltb (length buffer) (length sheet) ≡ short
-        → sheet_outcome run ls name_run name-ls buffer ≡ by_tests b short
+        → sheet_outcome run ls name_run name_ls buffer ≡ by_tests b short
     if_tests p q = ap₂ (λ (b s : Bool). by_tests b s) p q
 
-    into_only : {o : SheetOutcome} → SheetsInto run ls name_run name-ls buffer o
-        → o ≡ sheet_outcome run ls name_run name-ls buffer
+    into_only : {o : SheetOutcome} → SheetsInto run ls name_run name_ls buffer o
+        → o ≡ sheet_outcome run ls name_run name_ls buffer
     into_only (false_list f) = sym (if_tests (passes is_false_list f) refl)
     into_only (short_buffer fit x l) =
         let e = ap length (sheeted_only x).0 in
@@ -108,12 +108,12 @@ module _ (run ls name_run name-ls : List ℕ) where
         ∙ sym (if_tests (refuses is_false_list fit) room)
 
 pub sheets_ours : Sheets sheet_outcome
-sheets_ours run ls name_run name-ls buffer =
-    let enough = is_lt (length buffer) (length (sheet_for run ls name_run name-ls)) in
-    meets run ls name_run name-ls buffer (is_false_list run ls name_run name-ls) enough
+sheets_ours run ls name_run name_ls buffer =
+    let enough = is_lt (length buffer) (length (sheet_for run ls name_run name_ls)) in
+    meets run ls name_run name_ls buffer (is_false_list run ls name_run name_ls) enough
 
 pub sheets_only : (call : List ℕ → List ℕ → List ℕ → List ℕ → List ℕ → SheetOutcome) → Sheets call
-    → (run ls name_run name-ls buffer : List ℕ)
-    → call run ls name_run name-ls buffer ≡ sheet_outcome run ls name_run name-ls buffer
-sheets_only call h run ls name_run name-ls buffer =
-    into_only run ls name_run name-ls buffer (h run ls name_run name-ls buffer)
+    → (run ls name_run name_ls buffer : List ℕ)
+    → call run ls name_run name_ls buffer ≡ sheet_outcome run ls name_run name_ls buffer
+sheets_only call h run ls name_run name_ls buffer =
+    into_only run ls name_run name_ls buffer (h run ls name_run name_ls buffer)

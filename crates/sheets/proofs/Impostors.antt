@@ -53,10 +53,10 @@ abbrev Call : Type 0
 Call = List ℕ → List ℕ → List ℕ → List ℕ → List ℕ → SheetOutcome
 
 abbrev call_by : (List ℕ → List ℕ → List ℕ → List ℕ → Bool) → (List (List ℕ) → List (List ℕ) → List ℕ) → Call
-call_by ok write run ls name_run name-ls buffer =
+call_by ok write run ls name_run name_ls buffer =
     let cs = codes_in run ls in
-    let sheet = write (codes_in name_run name-ls) cs in
-    let f = first_of (when (not (ok run ls name_run name-ls)) false_list_number)
+    let sheet = write (codes_in name_run name_ls) cs in
+    let f = first_of (when (not (ok run ls name_run name_ls)) false_list_number)
     (when (ltb (length buffer) (length sheet)) short_buffer_number) in
     elim (eqb f 0) [
       | true ↦ outcome (written (length sheet) (saved_by turned cs)) (over sheet buffer)
@@ -74,7 +74,7 @@ abbrev how_often : List (List ℕ) → List ℕ → List ℕ → List (List ℕ)
 how_often codes code ribbon = decimal (count_of turned code ribbon) ∷ []
 
 abbrev checked : List ℕ → List ℕ → List ℕ → List ℕ → Bool
-checked run ls name_run name-ls = list_ok_lem run ls && names_ok_lem (length ls) name_run name-ls
+checked run ls name_run name_ls = list_ok_lem run ls && names_ok_lem (length ls) name_run name_ls
 
 pub right_sheet_is_ours : (names codes : List (List ℕ))
     → write_by listed field_text (place_of turned 0) decimal standing how_often names codes ≡ sheet_text_lem names codes
@@ -101,9 +101,9 @@ right_sheet_is_ours names codes = ap (λ (r : List ℕ). row_text sheet_heading 
         ap₂ (λ (fs : List (List ℕ)) (r : List ℕ). row_text (field_text n ∷ fs) ++ r)
         (fields c (place_of turned 0 c ribbon)) (rows ns cs)
 
-pub right_call_is_ours : (run ls name_run name-ls buffer : List ℕ)
-    → call_by checked sheet_text_lem run ls name_run name-ls buffer ≡ sheet_outcome run ls name_run name-ls buffer
-right_call_is_ours run ls name_run name-ls buffer = refl
+pub right_call_is_ours : (run ls name_run name_ls buffer : List ℕ)
+    → call_by checked sheet_text_lem run ls name_run name_ls buffer ≡ sheet_outcome run ls name_run name_ls buffer
+right_call_is_ours run ls name_run name_ls buffer = refl
 
 -- what is seen of a call: the numbers of its answer, and the buffer after it
 abbrev numbers : SheetAnswer → List ℕ
@@ -308,25 +308,25 @@ not_earlier_sheet = caught (call_by checked earlier_text) (text "P" ∷ []) (tex
 -- The list: names not checked, on a name used twice; every list turned away; the retired number, 14, where several codes share
 -- nothing, as if no join of overlap 0 were allowed, on A and B.
 abbrev unchecked : Call
-unchecked = call_by (λ run ls name_run name-ls. list_ok_lem run ls) sheet_text_lem
+unchecked = call_by (λ run ls name_run name_ls. list_ok_lem run ls) sheet_text_lem
 
 pub not_unchecked : Sheets unchecked → ⊥
 unfolding turned
 not_unchecked = caught unchecked twice apart room refl
 
 abbrev all_turned_away : Call
-all_turned_away = call_by (λ run ls name_run name-ls. false) sheet_text_lem
+all_turned_away = call_by (λ run ls name_run name_ls. false) sheet_text_lem
 
 pub not_all_turned_away : Sheets all_turned_away → ⊥
 unfolding turned
 not_all_turned_away = caught all_turned_away (text "P" ∷ []) (text "AB" ∷ []) room refl
 
 abbrev retired_number : Call
-retired_number run ls name_run name-ls buffer =
+retired_number run ls name_run name_ls buffer =
     pick
     (ltb 1 (length ls) && eqb (saved_by turned (codes_in run ls)) 0)
     (outcome (refused (whole 14)) buffer)
-    (sheet_outcome run ls name_run name-ls buffer)
+    (sheet_outcome run ls name_run name_ls buffer)
 
 pub not_retired_number : Sheets retired_number → ⊥
 unfolding turned
@@ -334,9 +334,9 @@ not_retired_number = caught retired_number two (text "A" ∷ text "B" ∷ []) ro
 
 -- The order of refusals: 13 before 12, on a name used twice and no room.
 abbrev short_first : Call
-short_first run ls name_run name-ls buffer =
-    let short = ltb (length buffer) (length (sheet_for run ls name_run name-ls)) in
-    pick short (outcome (refused (whole short_buffer_number)) buffer) (sheet_outcome run ls name_run name-ls buffer)
+short_first run ls name_run name_ls buffer =
+    let short = ltb (length buffer) (length (sheet_for run ls name_run name_ls)) in
+    pick short (outcome (refused (whole short_buffer_number)) buffer) (sheet_outcome run ls name_run name_ls buffer)
 
 pub not_short_first : Sheets short_first → ⊥
 unfolding turned
@@ -344,8 +344,8 @@ not_short_first = caught short_first twice apart [] refl
 
 -- The answer: length and saved exchanged.
 abbrev exchanged : Call
-exchanged run ls name_run name-ls buffer =
-    let o = sheet_outcome run ls name_run name-ls buffer in
+exchanged run ls name_run name_ls buffer =
+    let o = sheet_outcome run ls name_run name_ls buffer in
     elim o.answer [ refused r ↦ o | written bytes saved ↦ outcome (written saved bytes) o.after ]
 
 pub not_exchanged : Sheets exchanged → ⊥
@@ -354,23 +354,23 @@ not_exchanged = caught exchanged (text "P" ∷ []) (text "AB" ∷ []) room refl
 
 -- The buffer: untouched; written as far as it goes before a refusal, in one byte; cleared past the sheet.
 abbrev untouched : Call
-untouched run ls name_run name-ls buffer = outcome (sheet_outcome run ls name_run name-ls buffer).answer buffer
+untouched run ls name_run name_ls buffer = outcome (sheet_outcome run ls name_run name_ls buffer).answer buffer
 
 pub not_untouched : Sheets untouched → ⊥
 unfolding turned
 not_untouched = caught untouched (text "P" ∷ []) (text "AB" ∷ []) room refl
 
 abbrev writes_refused : Call
-writes_refused run ls name_run name-ls buffer =
-    outcome (sheet_outcome run ls name_run name-ls buffer).answer
-    (take (length buffer) (over (sheet_for run ls name_run name-ls) buffer))
+writes_refused run ls name_run name_ls buffer =
+    outcome (sheet_outcome run ls name_run name_ls buffer).answer
+    (take (length buffer) (over (sheet_for run ls name_run name_ls) buffer))
 
 pub not_writes_refused : Sheets writes_refused → ⊥
 unfolding turned
 not_writes_refused = caught writes_refused (text "P" ∷ []) (text "AB" ∷ []) (7 ∷ []) refl
 
 abbrev cleared : Call
-cleared run ls name_run name-ls buffer = sheet_outcome run ls name_run name-ls (map (λ (b : ℕ). 0) buffer)
+cleared run ls name_run name_ls buffer = sheet_outcome run ls name_run name_ls (map (λ (b : ℕ). 0) buffer)
 
 pub not_cleared : Sheets cleared → ⊥
 unfolding turned

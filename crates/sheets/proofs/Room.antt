@@ -84,19 +84,19 @@ sheet_long : {names codes : List (List ℕ)} {ribbon t : List ℕ} → SheetFor 
     → Each CodeRule codes → length ribbon ≤ 8192 → length t ≤ 29 + 134 * length codes
 sheet_long (heading_first {rows} rs) n c m = omega (arith, rows_long rs n c m)
 
-module _ (run ls name_run name-ls : List ℕ) (ok : list_ok_lem run ls ≡ true)
-    (names-ok : names_ok_lem (length ls) name_run name-ls ≡ true) where
-  pub sheet_at_most : length (sheet_for run ls name_run name-ls) ≤ 17181
+module _ (run ls name_run name_ls : List ℕ) (ok : list_ok_lem run ls ≡ true)
+    (names-ok : names_ok_lem (length ls) name_run name_ls ≡ true) where
+  pub sheet_at_most : length (sheet_for run ls name_run name_ls) ≤ 17181
   sheet_at_most =
       let C = holds (is_fit_list run ls) ok in
-      let N = holds (is_fit_names (length ls) name_run name-ls) names-ok in
-      let long = sheet_long (shows_ours run ls name_run name-ls N) N.named C.coded (ribbon_at_most run ls ok) in
+      let N = holds (is_fit_names (length ls) name_run name_ls) names-ok in
+      let long = sheet_long (shows_ours run ls name_run name_ls N) N.named C.coded (ribbon_at_most run ls ok) in
       omega (arith, long, codes_count run ls, C.at_most)
 
   -- So every fit list with names is written, into a buffer of that length.
   pub accepts : (buffer : List ℕ) → 17181 ≤ length buffer
-      → (sheet_outcome run ls name_run name-ls buffer).answer
-      ≡ written (length (sheet_for run ls name_run name-ls)) (saved_by turned (codes_in run ls))
+      → (sheet_outcome run ls name_run name_ls buffer).answer
+      ≡ written (length (sheet_for run ls name_run name_ls)) (saved_by turned (codes_in run ls))
   accepts buffer room =
-      let l = le-ltb (length buffer) (length (sheet_for run ls name_run name-ls)) (omega (arith, sheet_at_most)) in
+      let l = le-ltb (length buffer) (length (sheet_for run ls name_run name_ls)) (omega (arith, sheet_at_most)) in
       rw (sheet_outcome, ok, names-ok, l)

@@ -21,14 +21,14 @@ SheetOutcome = Outcome SheetAnswer (List ℕ)
 
 -- The claim on a call: 12 for codes or names, then 13, each under its condition and both with row 0; a refused call changes
 -- no lent byte, and on success the buffer past the sheet keeps what it had.
-module _ (run ls name_run name-ls : List ℕ) where
+module _ (run ls name_run name_ls : List ℕ) where
   abbrev pub FalseList : Type 0
-  FalseList = FalseCodes run ls ⊎ FalseNames (length ls) name_run name-ls
+  FalseList = FalseCodes run ls ⊎ FalseNames (length ls) name_run name_ls
 
   -- a ribbon laid out by the rules, and its sheet
   pub record Sheeted (ribbon sheet : List ℕ) (saved : ℕ) : Type 0 where
     pub lays : Lays Chosen turned (codes_in run ls) ribbon saved
-    pub shows : SheetFor (codes_in name_run name-ls) (codes_in run ls) ribbon sheet
+    pub shows : SheetFor (codes_in name_run name_ls) (codes_in run ls) ribbon sheet
 
   pub data SheetsInto (buffer : List ℕ) : SheetOutcome → Type 0 where
     false_list : FalseList → SheetsInto buffer (outcome (refused (whole false_list_number)) buffer)
@@ -39,17 +39,17 @@ module _ (run ls name_run name-ls : List ℕ) where
 
 abbrev pub Sheets : (List ℕ → List ℕ → List ℕ → List ℕ → List ℕ → SheetOutcome) → Type 0
 Sheets call =
-    (run ls name_run name-ls buffer : List ℕ)
-    → SheetsInto run ls name_run name-ls buffer (call run ls name_run name-ls buffer)
+    (run ls name_run name_ls buffer : List ℕ)
+    → SheetsInto run ls name_run name_ls buffer (call run ls name_run name_ls buffer)
 
 -- Ours.
-module _ (run ls name_run name-ls : List ℕ) where
+module _ (run ls name_run name_ls : List ℕ) where
   abbrev pub sheet_for : List ℕ
-  sheet_for = sheet_text_lem (codes_in name_run name-ls) (codes_in run ls)
+  sheet_for = sheet_text_lem (codes_in name_run name_ls) (codes_in run ls)
 
   abbrev pub sheet_fault : ℕ → ℕ
   sheet_fault room =
-      first_of (when (not (list_ok_lem run ls && names_ok_lem (length ls) name_run name-ls)) false_list_number)
+      first_of (when (not (list_ok_lem run ls && names_ok_lem (length ls) name_run name_ls)) false_list_number)
       (when (ltb room (length sheet_for)) short_buffer_number)
 
   abbrev pub sheet_outcome : List ℕ → SheetOutcome

@@ -40,31 +40,31 @@ use Rattle.writer.specs.declared.Wrote.{Wrote}
 use Rattle.writer.specs.declared.Wrote.TheVariants.{Sheet}
 
 -- a sheet: too long for the buffer, or written
-module _ (run ls name_run name-ls : List ℕ) {size : ℕ} (long : size ≡ length (sheet_for run ls name_run name-ls)) (saved : ℕ)
+module _ (run ls name_run name_ls : List ℕ) {size : ℕ} (long : size ≡ length (sheet_for run ls name_run name_ls)) (saved : ℕ)
     (buffer : List ℕ) where
-  room : (t : Bool) → ltb (length buffer) size ≡ t → ltb (length buffer) (length (sheet_for run ls name_run name-ls)) ≡ t
+  room : (t : Bool) → ltb (length buffer) size ≡ t → ltb (length buffer) (length (sheet_for run ls name_run name_ls)) ≡ t
   room t e = ap (ltb (length buffer)) (sym long) ∙ e
 
   gives_short : {r : Wrote} → length buffer < size → answer_of r ≡ refused (whole short_buffer_number)
-      → Gives (laid_outcome run ls name_run name-ls saved buffer) buffer r
+      → Gives (laid_outcome run ls name_run name_ls saved buffer) buffer r
   unfolding laid_outcome
   gives_short l e =
       let t = room true (lt-ltb (length buffer) size l) in
       record { answer = rw (t, laid_outcome) e; left = rw (t, laid_outcome) }
 
-  gives_sheet : {after : List ℕ} → size ≤ length buffer → after ≡ over (sheet_for run ls name_run name-ls) buffer
-      → Gives (laid_outcome run ls name_run name-ls saved buffer) after (Sheet size saved)
+  gives_sheet : {after : List ℕ} → size ≤ length buffer → after ≡ over (sheet_for run ls name_run name_ls) buffer
+      → Gives (laid_outcome run ls name_run name_ls saved buffer) after (Sheet size saved)
   unfolding laid_outcome
   gives_sheet l e =
       let t = room false (le-ltb (length buffer) size l) in
       record { answer = rw (t, laid_outcome) (ap (λ (n : ℕ). written n saved) long); left = rw (t, laid_outcome) e }
 
 -- a fit list with its ribbon, which the search for places takes
-pub ribbon_short : {run ls name_run name-ls ribbon : List ℕ} → Ready run ls name_run name-ls ribbon → length ribbon ≤ 16384
+pub ribbon_short : {run ls name_run name_ls ribbon : List ℕ} → Ready run ls name_run name_ls ribbon → length ribbon ≤ 16384
 ribbon_short {run} {ls} h = omega (arith, ap length h.laid, ribbon_at_most run ls h.list_fits)
 
 -- the records that were found on it are those of all codes
-module _ {run ls name_run name-ls ribbon : List ℕ} (h : Ready run ls name_run name-ls ribbon) {count : ℕ}
+module _ {run ls name_run name_ls ribbon : List ℕ} (h : Ready run ls name_run name_ls ribbon) {count : ℕ}
     {all : List Place} (f : FindsPlaces run ls ribbon count all) where
   abbrev cs : List (List ℕ)
   cs = codes_in run ls
@@ -83,66 +83,66 @@ module _ {run ls name_run name-ls ribbon : List ℕ} (h : Ready run ls name_run 
       subst (λ (n : ℕ). FindsPlaces run ls ribbon n all) e f
 
 -- and by what is shown of them the sheet is the list's
-module _ {run ls name_run name-ls ribbon : List ℕ} (h : Ready run ls name_run name-ls ribbon) {all : List Shown}
+module _ {run ls name_run name_ls ribbon : List ℕ} (h : Ready run ls name_run name_ls ribbon) {all : List Shown}
     (f : ShowsCodes run ls ribbon all) where
-  pub there : RowsThere name_run name-ls ls all ribbon
-  there = rows_there run ls name_run name-ls h.list_fits f h.names_fit
+  pub there : RowsThere name_run name_ls ls all ribbon
+  there = rows_there run ls name_run name_ls h.list_fits f h.names_fit
 
-  sheet_is : placed_sheet (codes_in name_run name-ls) ls all ribbon ≡ sheet_for run ls name_run name-ls
-  sheet_is = placed_is_sheet run ls name_run name-ls h.list_fits f h.laid
+  sheet_is : placed_sheet (codes_in name_run name_ls) ls all ribbon ≡ sheet_for run ls name_run name_ls
+  sheet_is = placed_is_sheet run ls name_run name_ls h.list_fits f h.laid
 
-  module _ {size : ℕ} (e : size ≡ length (placed_sheet (codes_in name_run name-ls) ls all ribbon)) where
+  module _ {size : ℕ} (e : size ≡ length (placed_sheet (codes_in name_run name_ls) ls all ribbon)) where
     pub size_short : size ≤ 17181
-    size_short = omega (arith, e, ap length sheet_is, sheet_at_most run ls name_run name-ls h.list_fits h.names_fit)
+    size_short = omega (arith, e, ap length sheet_is, sheet_at_most run ls name_run name_ls h.list_fits h.names_fit)
 
     module _ (saved : ℕ) (buffer : List ℕ) where
       pub sheet_short : {r : Wrote} → length buffer < size → answer_of r ≡ refused (whole short_buffer_number)
-          → Gives (laid_outcome run ls name_run name-ls saved buffer) buffer r
-      sheet_short l a = gives_short run ls name_run name-ls (e ∙ ap length sheet_is) saved buffer l a
+          → Gives (laid_outcome run ls name_run name_ls saved buffer) buffer r
+      sheet_short l a = gives_short run ls name_run name_ls (e ∙ ap length sheet_is) saved buffer l a
 
       pub sheet_written : {after : List ℕ} {r : ℕ} → size ≤ length buffer
-          → PutsSheet (placed_sheet (codes_in name_run name-ls) ls all ribbon) buffer after r
-          → Gives (laid_outcome run ls name_run name-ls saved buffer) after (Sheet size saved)
+          → PutsSheet (placed_sheet (codes_in name_run name_ls) ls all ribbon) buffer after r
+          → Gives (laid_outcome run ls name_run name_ls saved buffer) after (Sheet size saved)
       sheet_written l p =
-          gives_sheet run ls name_run name-ls (e ∙ ap length sheet_is) saved buffer l
+          gives_sheet run ls name_run name_ls (e ∙ ap length sheet_is) saved buffer l
           (p.left ∙ ap (λ (s : List ℕ). over s buffer) sheet_is)
 
 -- the whole
-module _ (run ls name_run name-ls buffer : List ℕ) where
-  writes : {after : List ℕ} {r : Wrote} → Gives (sheet_outcome run ls name_run name-ls buffer) after r
-      → WritesSheet run ls name_run name-ls buffer after r
+module _ (run ls name_run name_ls buffer : List ℕ) where
+  writes : {after : List ℕ} {r : Wrote} → Gives (sheet_outcome run ls name_run name_ls buffer) after r
+      → WritesSheet run ls name_run name_ls buffer after r
   writes g =
       record {
         answer = g.answer;
         left = g.left;
         means =
-            subst (SheetsInto run ls name_run name-ls buffer)
+            subst (SheetsInto run ls name_run name_ls buffer)
             (ap₂ (λ (x : SheetAnswer) (l : List ℕ). outcome x l) (sym g.answer) (sym g.left))
-            (sheets_ours run ls name_run name-ls buffer);
+            (sheets_ours run ls name_run name_ls buffer);
       }
 
   -- a false list, or false names, are refused before anything
-  pub writes_false : {r : Wrote} → (list_ok_lem run ls && names_ok_lem (length ls) name_run name-ls) ≡ false
-      → answer_of r ≡ refused (whole false_list_number) → WritesSheet run ls name_run name-ls buffer buffer r
+  pub writes_false : {r : Wrote} → (list_ok_lem run ls && names_ok_lem (length ls) name_run name_ls) ≡ false
+      → answer_of r ≡ refused (whole false_list_number) → WritesSheet run ls name_run name_ls buffer buffer r
   writes_false e a =
-      writes (rw (if_tests run ls name_run name-ls buffer (ap not e) refl) (record { answer = a; left = refl }))
+      writes (rw (if_tests run ls name_run name_ls buffer (ap not e) refl) (record { answer = a; left = refl }))
 
   -- else the outcome is that of the sheet
-  fit_by : (t : Bool) → ltb (length buffer) (length (sheet_for run ls name_run name-ls)) ≡ t → list_ok_lem run ls ≡ true
-      → names_ok_lem (length ls) name_run name-ls ≡ true
-      → sheet_outcome run ls name_run name-ls buffer
-      ≡ laid_outcome run ls name_run name-ls (saved_by turned (codes_in run ls)) buffer
+  fit_by : (t : Bool) → ltb (length buffer) (length (sheet_for run ls name_run name_ls)) ≡ t → list_ok_lem run ls ≡ true
+      → names_ok_lem (length ls) name_run name_ls ≡ true
+      → sheet_outcome run ls name_run name_ls buffer
+      ≡ laid_outcome run ls name_run name_ls (saved_by turned (codes_in run ls)) buffer
   unfolding laid_outcome
   fit_by true e ok names-ok =
-      if_tests run ls name_run name-ls buffer (ap not (both ok names-ok)) e ∙ rw (laid_outcome, e)
+      if_tests run ls name_run name_ls buffer (ap not (both ok names-ok)) e ∙ rw (laid_outcome, e)
   fit_by false e ok names-ok =
-      if_tests run ls name_run name-ls buffer (ap not (both ok names-ok)) e ∙ rw (laid_outcome, e)
+      if_tests run ls name_run name_ls buffer (ap not (both ok names-ok)) e ∙ rw (laid_outcome, e)
 
   pub writes_laid : {after : List ℕ} {r : Wrote} (saved : ℕ) → list_ok_lem run ls ≡ true
-      → names_ok_lem (length ls) name_run name-ls ≡ true → saved ≡ saved_by turned (codes_in run ls)
-      → Gives (laid_outcome run ls name_run name-ls saved buffer) after r
-      → WritesSheet run ls name_run name-ls buffer after r
+      → names_ok_lem (length ls) name_run name_ls ≡ true → saved ≡ saved_by turned (codes_in run ls)
+      → Gives (laid_outcome run ls name_run name_ls saved buffer) after r
+      → WritesSheet run ls name_run name_ls buffer after r
   writes_laid {after} {r} saved ok names-ok e g =
       let o =
-      ap (λ (n : ℕ). laid_outcome run ls name_run name-ls n buffer) e ∙ sym (fit_by _ refl ok names-ok) in
+      ap (λ (n : ℕ). laid_outcome run ls name_run name_ls n buffer) e ∙ sym (fit_by _ refl ok names-ok) in
       writes (subst (λ (u : SheetOutcome). Gives u after r) o g)

@@ -17,20 +17,20 @@ answer_of (Refused r) = refused (refusal_of r)
 answer_of (Sheet bytes saved) = written bytes saved
 
 -- What writing a sheet promises: the one outcome that is defined, and what it means.
-pub record WritesSheet (run ls name_run name-ls before after : List ℕ) (r : Wrote) : Type 0 where
-  pub answer : answer_of r ≡ (sheet_outcome run ls name_run name-ls before).answer
-  pub left : after ≡ (sheet_outcome run ls name_run name-ls before).after
-  pub means : SheetsInto run ls name_run name-ls before (outcome (answer_of r) after)
+pub record WritesSheet (run ls name_run name_ls before after : List ℕ) (r : Wrote) : Type 0 where
+  pub answer : answer_of r ≡ (sheet_outcome run ls name_run name_ls before).answer
+  pub left : after ≡ (sheet_outcome run ls name_run name_ls before).after
+  pub means : SheetsInto run ls name_run name_ls before (outcome (answer_of r) after)
 
 -- The stage behind the layout: a fit list with its ribbon, whose sheet is written where it fits.
-pub record Ready (run ls name_run name-ls ribbon : List ℕ) : Type 0 where
+pub record Ready (run ls name_run name_ls ribbon : List ℕ) : Type 0 where
   pub list_fits : list_ok_lem run ls ≡ true
-  pub names_fit : names_ok_lem (length ls) name_run name-ls ≡ true
+  pub names_fit : names_ok_lem (length ls) name_run name_ls ≡ true
   pub laid : ribbon ≡ ribbon_for turned (codes_in run ls)
 
-unfoldable pub laid_outcome : (run ls name_run name-ls : List ℕ) → ℕ → List ℕ → SheetOutcome
-laid_outcome run ls name_run name-ls saved buffer =
-    let sheet = sheet_for run ls name_run name-ls in
+unfoldable pub laid_outcome : (run ls name_run name_ls : List ℕ) → ℕ → List ℕ → SheetOutcome
+laid_outcome run ls name_run name_ls saved buffer =
+    let sheet = sheet_for run ls name_run name_ls in
     elim (ltb (length buffer) (length sheet)) [
       | true ↦ outcome (refused (whole short_buffer_number)) buffer
       | false ↦ outcome (written (length sheet) saved) (over sheet buffer)
