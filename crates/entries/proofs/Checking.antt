@@ -23,42 +23,42 @@ use Rattle.rows.specs.declared.scan.RowRead.{RowRead}
 use Rattle.lists.specs.Runs.{codes_in}
 use Rattle.lists.proofs.Runs.{up_to, part_to, codes_count}
 
-module _ (ofTwo : List ℕ → List ℕ → ℕ) (x : Row) where
-  fault_broken : x.good ≡ false → row_fault ofTwo x ≡ broken_row_number
+module _ (of_two : List ℕ → List ℕ → ℕ) (x : Row) where
+  fault_broken : x.good ≡ false → row_fault of_two x ≡ broken_row_number
   fault_broken g = rw g
 
-  fault_wide : x.good ≡ true → length x.fields ≢ 2 → row_fault ofTwo x ≡ wrong_width_number
+  fault_wide : x.good ≡ true → length x.fields ≢ 2 → row_fault of_two x ≡ wrong_width_number
   fault_wide g h = rw (g, ne_eqb (length x.fields) 2 h)
 
-  fault_two : x.good ≡ true → length x.fields ≡ 2 → row_fault ofTwo x ≡ ofTwo (name_in x) (code_in x)
+  fault_two : x.good ≡ true → length x.fields ≡ 2 → row_fault of_two x ≡ of_two (name_in x) (code_in x)
   fault_two g h = rw (g, eq-eqb (length x.fields) 2 h)
 
-module _ (ofTwo : List ℕ → List ℕ → ℕ) {file names names' bands bands' : List ℕ} {at nmark bmark : ℕ} {r : RowRead}
+module _ (of_two : List ℕ → List ℕ → ℕ) {file names names' bands bands' : List ℕ} {at nmark bmark : ℕ} {r : RowRead}
     (h : ReadsRow file at names names' nmark bands bands' bmark r) where
   abbrev here : Row
   here = first_row (drop at file)
 
   pub checks_broken : r.good ≡ false
-      → ChecksRow file at ofTwo names names' nmark bands bands' bmark (record { fault = 2; name = 0; code = 0; next = at })
+      → ChecksRow file at of_two names names' nmark bands bands' bmark (record { fault = 2; name = 0; code = 0; next = at })
   checks_broken g = record {
     names_kept = h.names_kept;
     bands_kept = h.bands_kept;
-    fault = sym (fault_broken ofTwo here (sym h.good ∙ g));
+    fault = sym (fault_broken of_two here (sym h.good ∙ g));
     found = λ z. absurd (omega arith);
   }
 
   module _ (g : r.good ≡ true) where
     pub checks_wide : r.fields ≢ 2
-        → ChecksRow file at ofTwo names names' nmark bands bands' bmark (record { fault = 3; name = 0; code = 0; next = at })
+        → ChecksRow file at of_two names names' nmark bands bands' bmark (record { fault = 3; name = 0; code = 0; next = at })
     checks_wide w = record {
       names_kept = h.names_kept;
       bands_kept = h.bands_kept;
-      fault = sym (fault_wide ofTwo here (sym h.good ∙ g) (λ e. w ((h.found (sym h.good ∙ g)).width ∙ e)));
+      fault = sym (fault_wide of_two here (sym h.good ∙ g) (λ e. w ((h.found (sym h.good ∙ g)).width ∙ e)));
       found = λ z. absurd (omega arith);
     }
 
-    pub checks_two : (f : ℕ) → r.fields ≡ 2 → f ≡ ofTwo (part_of names' nmark r.name) (part_of bands' bmark r.code)
-        → ChecksRow file at ofTwo names names' nmark bands bands' bmark
+    pub checks_two : (f : ℕ) → r.fields ≡ 2 → f ≡ of_two (part_of names' nmark r.name) (part_of bands' bmark r.code)
+        → ChecksRow file at of_two names names' nmark bands bands' bmark
         (record { fault = f; name = r.name; code = r.code; next = r.next })
     checks_two f w e =
         let good : here.good ≡ true = sym h.good ∙ g in
@@ -67,7 +67,7 @@ module _ (ofTwo : List ℕ → List ℕ → ℕ) {file names names' bands bands'
         record {
           names_kept = h.names_kept;
           bands_kept = h.bands_kept;
-          fault = cc (e, fault_two ofTwo here good two, found.name_is two, found.code_is two);
+          fault = cc (e, fault_two of_two here good two, found.name_is two, found.code_is two);
           found = λ z. record {
             rest = found.rest;
             within = found.within;

@@ -25,10 +25,10 @@ pub record EntryFound (file : List ℕ) (at : ℕ) (names : List ℕ) (nmark : �
   pub code_is : code_in x ≡ part_of bands bmark r.code
 
 -- the row that begins here, with the fault that the test of two fields finds
-pub record ChecksRow (file : List ℕ) (at : ℕ) (ofTwo : List ℕ → List ℕ → ℕ) (names names' : List ℕ) (nmark : ℕ) (bands bands' : List ℕ) (bmark : ℕ) (r : Checked) : Type 0 where
+pub record ChecksRow (file : List ℕ) (at : ℕ) (of_two : List ℕ → List ℕ → ℕ) (names names' : List ℕ) (nmark : ℕ) (bands bands' : List ℕ) (bmark : ℕ) (r : Checked) : Type 0 where
   pub names_kept : KeptTo nmark names names'
   pub bands_kept : KeptTo bmark bands bands'
-  pub fault : r.fault ≡ row_fault ofTwo (first_row (drop at file))
+  pub fault : r.fault ≡ row_fault of_two (first_row (drop at file))
   pub found : r.fault ≡ 0 → EntryFound file at names' nmark bands' bmark (first_row (drop at file)) r
 
 -- the answer from the entries on that begin here, none before them

@@ -29,10 +29,10 @@ code_in r = get_or r.fields 1 []
 
 -- the fault of a row: 2 and 3 come first
 abbrev pub row_fault : (List ℕ → List ℕ → ℕ) → Row → ℕ
-row_fault ofTwo r =
+row_fault of_two r =
     first_of (when (not r.good) broken_row_number)
     (first_of (when (not (eqb (length r.fields) 2)) wrong_width_number)
-    (ofTwo (name_in r) (code_in r)))
+    (of_two (name_in r) (code_in r)))
 
 -- the rows from number k on, after entries with these names and codes; fuel as many as bytes are left, and one more
 abbrev pub rows_from : ℕ → ℕ → List (List ℕ) → List (List ℕ) → List ℕ → Orders

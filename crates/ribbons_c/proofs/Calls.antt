@@ -36,11 +36,11 @@ use Rattle.ribbons_c.specs.Calls.{Tells, answer_by_number, plain_read, read_of, 
 use Rattle.ribbons_c.specs.Calls.{plain_checked, checked_of, TellsChecked, plain_wrote, wrote_of, TellsSheet, TellsRibbon}
 
 -- an answer x that is known to be y
-module _ {A B : Type 0} {meets : A → Type 0} {plain : A → B} {readAs : B → A} where
-  tells : {x y : A} {r : B} → ((a : A) → meets a → readAs (plain a) ≡ a) → x ≡ y → meets x → r ≡ plain y
-      → Tells meets plain readAs r
+module _ {A B : Type 0} {meets : A → Type 0} {plain : A → B} {read_as : B → A} where
+  tells : {x y : A} {r : B} → ((a : A) → meets a → read_as (plain a) ≡ a) → x ≡ y → meets x → r ≡ plain y
+      → Tells meets plain read_as r
   tells {y = y} kept e m t =
-      let z = ap readAs t ∙ kept y (subst meets e m) in
+      let z = ap read_as t ∙ kept y (subst meets e m) in
       record { meant = subst meets (e ∙ sym z) m; plainly = t ∙ sym (ap plain z) }
 
 pub by_number : {A : Type 0} (n : ℕ) (given refused : A) → 0 < n → answer_by_number n given refused ≡ refused

@@ -23,9 +23,9 @@ use Rattle.ribbons_c.specs.declared.RibbonsSheet.{RibbonsSheet}
 
 -- A plain answer r of a call whose contract is meets: the answer that r is read as keeps the contract, and r is its plain
 -- form, so that nothing else stands in it.
-pub record Tells {A B : Type 0} (meets : A → Type 0) (plain : A → B) (readAs : B → A) (r : B) : Type 0 where
-  pub meant : meets (readAs r)
-  pub plainly : r ≡ plain (readAs r)
+pub record Tells {A B : Type 0} (meets : A → Type 0) (plain : A → B) (read_as : B → A) (r : B) : Type 0 where
+  pub meant : meets (read_as r)
+  pub plainly : r ≡ plain (read_as r)
 
 -- An answer is read by its number: 0 stands for no refusal, and any other for the refusal of that number.
 abbrev pub answer_by_number : {A : Type 0} → ℕ → A → A → A

@@ -1,6 +1,5 @@
 -- `ribbons_check_ribbon` tells what check_only answers, case by case.
 use mathlib.Core.Path.{refl}
-use borrow.Author.Rules.{rules}
 use mir.Syntax.{w32}
 use mir.ValLaws.{to_z-of_z}
 use Rattle.ribbons_c.proofs.Calls.{tells_checked, tells_held}

@@ -1,6 +1,5 @@
 -- `ribbons_lay_ribbon` tells what lay_ribbon answers, case by case.
 use mathlib.Core.Path.{refl}
-use borrow.Author.Rules.{rules}
 use Rattle.ribbons_c.proofs.Calls.{tells_laid}
 use Rattle.ribbons_c.proofs.ribbons_lay_ribbon.Goals as goal
 

@@ -1,6 +1,5 @@
 -- `ribbons_read_orders` tells what read_orders answers, case by case.
 use mathlib.Core.Path.{refl}
-use borrow.Author.Rules.{rules}
 use Rattle.grammar.specs.Answers.{lent}
 use Rattle.ribbons_c.proofs.Calls.{tells_orders}
 use Rattle.ribbons_c.proofs.ribbons_read_orders.Goals as goal

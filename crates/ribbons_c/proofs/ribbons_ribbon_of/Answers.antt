@@ -1,5 +1,4 @@
 -- `ribbons_ribbon_of` answers with the length of what ribbon_of gives.
-use borrow.Author.Rules.{rules}
 use Rattle.ribbons_c.proofs.Calls.{tells_ribbon}
 use Rattle.ribbons_c.proofs.ribbons_ribbon_of.Goals as goal
 

@@ -1,6 +1,5 @@
 -- `ribbons_write_sheet` tells what write_sheet answers, case by case.
 use mathlib.Core.Path.{refl}
-use borrow.Author.Rules.{rules}
 use Rattle.ribbons_c.proofs.Calls.{tells_sheet}
 use Rattle.ribbons_c.proofs.ribbons_write_sheet.Goals as goal
 

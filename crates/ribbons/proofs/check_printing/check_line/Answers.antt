@@ -1,6 +1,5 @@
 -- `check_printing::check_line`: each answer's line is written.
 use mathlib.Core.Path.{refl}
-use borrow.Author.Rules.{rules}
 use Rattle.ribbons.proofs.CheckText.{check_written, held_checked}
 use Rattle.ribbons.proofs.check_printing.check_line.Goals as goal
 

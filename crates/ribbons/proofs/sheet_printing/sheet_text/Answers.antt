@@ -1,6 +1,5 @@
 -- `sheet_printing::sheet_text`: a fit list with names is not refused, and what is written is its sheet.
 use mathlib.Core.Path.{refl}
-use borrow.Author.Rules.{rules}
 use Rattle.ribbons.proofs.SheetText.{sheet_never_refused, sheet_written}
 use Rattle.ribbons.proofs.sheet_printing.sheet_text.Goals as goal
 
