@@ -1,5 +1,5 @@
 -- The refusal of document 01's table that an answer of ours carries.
-use Rattle.std.specs.Prelude.{ℕ}
+use Rattle.std.specs.Prelude.{ℕ, Result, Ok, Err}
 use Rattle.lists.specs.Refusals.{Refusal, refusal, long_file_number, broken_row_number, wrong_width_number, wrong_heading_number, bad_name_number}
 use Rattle.lists.specs.Refusals.{no_bands_number, long_code_number, unknown_colour_number, name_taken_number, list_full_number, empty_list_number}
 use Rattle.lists.specs.Refusals.{false_list_number, short_buffer_number, long_ribbon_number}
@@ -27,3 +27,8 @@ number_of fault.LongRibbon = long_ribbon_number
 -- its number and its row
 abbrev pub refusal_of : declared.Refusal → Refusal
 refusal_of r = refusal (number_of r.fault) r.row
+
+-- the number that a test tells, 0 where it finds no fault
+abbrev pub number_told : {T : Type 0} → Result T Fault → ℕ
+number_told (Ok x) = 0
+number_told (Err f) = number_of f
