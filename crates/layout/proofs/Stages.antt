@@ -2,6 +2,7 @@
 -- of the kept codes in the order that joining gives.
 use mathlib.Core.Path.{◌≡◌, refl, sym, ap, ◌∙◌}
 use mathlib.Core.Bool.{Bool, true, false, not}
+use Rattle.std.proofs.Common.{Result, Ok}
 use mathlib.Core.List.{List, [], ◌∷◌}
 use Prim.Native.Nat.{ℕ, zero, suc, ◌*◌, ◌≤◌, ◌<◌}
 use native.Mathlib.Omega.{arith}
@@ -28,7 +29,7 @@ use Rattle.greedy.specs.Answers as a
 use Rattle.parts.proofs.Parts.{parts_length}
 use Rattle.greedy.proofs.Answers.{by_tests}
 use Rattle.layout.specs.declared.Laid.{Laid}
-use Rattle.layout.specs.declared.Laid.TheVariants.{Ribbon}
+use Rattle.lists.specs.declared.numbers.Refusal.{Refusal}
 
 -- the ribbon of an order: too long for the buffer, or written
 module _ {run starts sizes : List ℕ} {n : ℕ} {p : List ℕ} {bands saved : ℕ} (m : Measures run starts sizes n p bands saved)
@@ -36,7 +37,7 @@ module _ {run starts sizes : List ℕ} {n : ℕ} {p : List ℕ} {bands saved : �
   room : (t : Bool) → ltb (length buffer) bands ≡ t → ltb (length buffer) (length (part_ribbon run starts sizes n p)) ≡ t
   room t e = ap (ltb (length buffer)) (sym m.long) ∙ e
 
-  pub gives_short : {r : Laid} → length buffer < bands → answer_of r ≡ a.refused (whole short_buffer_number)
+  pub gives_short : {r : Result Laid Refusal} → length buffer < bands → answer_of r ≡ a.refused (whole short_buffer_number)
       → Gives (order_outcome (parts_of run starts sizes n) p buffer) buffer r
   unfolding order_outcome
   gives_short l e =
@@ -44,7 +45,7 @@ module _ {run starts sizes : List ℕ} {n : ℕ} {p : List ℕ} {bands saved : �
       record { answer = rw (t, order_outcome) e; left = rw (t, order_outcome) }
 
   pub gives_ribbon : {after : List ℕ} → bands ≤ length buffer → after ≡ over (part_ribbon run starts sizes n p) buffer
-      → Gives (order_outcome (parts_of run starts sizes n) p buffer) after (Ribbon bands saved)
+      → Gives (order_outcome (parts_of run starts sizes n) p buffer) after (Ok (record { bands = bands; saved = saved }))
   unfolding order_outcome
   gives_ribbon l e =
       let t = room false (le-ltb (length buffer) bands l) in
@@ -76,7 +77,7 @@ module _ (run starts sizes : List ℕ) (n : ℕ) {before after : List ℕ} {r : 
       each_at (f ∷ p) t zero l = t.0
       each_at (f ∷ p) t (suc k) l = each_at p t.1 k (omega arith)
 
-  pub gives_ordered : (buffer : List ℕ) {left : List ℕ} {x : Laid}
+  pub gives_ordered : (buffer : List ℕ) {left : List ℕ} {x : Result Laid Refusal}
       → Gives (order_outcome (parts_of run starts sizes n) (take r after) buffer) left x
       → Gives (kept_outcome (parts_of run starts sizes n) buffer) left x
   gives_ordered buffer g =
@@ -108,10 +109,10 @@ module _ (run ls buffer : List ℕ) where
   outcome_kept : list_ok_lem run ls ≡ true → lay_outcome run ls buffer ≡ kept_outcome (kept turned cs) buffer
   outcome_kept e = ap (λ (t : Bool). by_tests run ls buffer (not t) short) e ∙ sym (kept_by short refl)
 
-  pub gives_false : {r : Laid} → list_ok_lem run ls ≡ false → answer_of r ≡ a.refused (whole false_list_number)
+  pub gives_false : {r : Result Laid Refusal} → list_ok_lem run ls ≡ false → answer_of r ≡ a.refused (whole false_list_number)
       → Gives (lay_outcome run ls buffer) buffer r
   gives_false e f = rw (outcome_false e) (record { answer = f; left = refl })
 
-  pub gives_kept : {cs : List (List ℕ)} {after : List ℕ} {r : Laid} → list_ok_lem run ls ≡ true
+  pub gives_kept : {cs : List (List ℕ)} {after : List ℕ} {r : Result Laid Refusal} → list_ok_lem run ls ≡ true
       → cs ≡ kept turned (codes_in run ls) → Gives (kept_outcome cs buffer) after r → Gives (lay_outcome run ls buffer) after r
   gives_kept e f g = rw (outcome_kept e, ← f) g

@@ -14,7 +14,7 @@ pub returns-then-not-list_ok : goal.returns-then-not-list_ok
 returns-then-not-list_ok c =
     let a = c.args in
     lays_ribbon a.bands.now a.lengths.now a.ribbon.now
-    (gives_false a.bands.now a.lengths.now a.ribbon.now (sym c.list_ok.ensures ∙ c.if-not-list_ok.true) c.refused.ensures)
+    (gives_false a.bands.now a.lengths.now a.ribbon.now (sym c.list_ok.ensures ∙ c.if-not-list_ok.true) (rw c.into.ensures))
 
 pub cut-requires : goal.cut-requires
 cut-requires c =
