@@ -5,7 +5,6 @@ use mathlib.Core.Logic.{◌≢◌}
 use mathlib.Core.Bool.{Bool, true, false, not, ◌&&◌}
 use mathlib.Core.List.{List}
 use Prim.Native.Nat.{ℕ, ◌+◌, ◌≤◌, ◌<◌}
-use native.Mathlib.Omega.{arith}
 use lib.Dec.{eqb, ltb, leb}
 use lib.ListN.{length, drop}
 use borrow.Author.Tests.{eq-eqb, ne_eqb, le-ltb, le-leb, lt-leb}
@@ -20,6 +19,10 @@ use Rattle.grammar.specs.Orders.{name_in, code_in, head_fault_lem, entry_fault_l
 use Rattle.rows.specs.Scans.{part_of, ReadsRow}
 use Rattle.entries.specs.Gathering.{fields_fault_lem, ChecksRow}
 use Rattle.rows.specs.declared.scan.RowRead.{RowRead}
+use Rattle.std.specs.Prelude.{Ok, Err}
+use Rattle.lists.specs.Answers.{number_of}
+use Rattle.lists.specs.declared.numbers.Fault.{Fault}
+use Rattle.lists.specs.declared.numbers.Fault.TheVariants as fault
 use Rattle.lists.specs.Runs.{codes_in}
 use Rattle.lists.proofs.Runs.{up_to, part_to, codes_count}
 
@@ -38,46 +41,60 @@ module _ (of_two : List ℕ → List ℕ → ℕ) {file names names' bands bands
   abbrev here : Row
   here = first_row (drop at file)
 
-  pub checks_broken : r.good ≡ false
-      → ChecksRow file at of_two names names' nmark bands bands' bmark (record { fault = 2; name = 0; code = 0; next = at })
+  pub checks_broken : r.good ≡ false → ChecksRow file at of_two names names' nmark bands bands' bmark (Err fault.BrokenRow)
   checks_broken g = record {
     names_kept = h.names_kept;
     bands_kept = h.bands_kept;
     fault = sym (fault_broken of_two here (sym h.good ∙ g));
-    found = λ z. absurd (omega arith);
+    found = tt;
   }
 
   module _ (g : r.good ≡ true) where
-    pub checks_wide : r.fields ≢ 2
-        → ChecksRow file at of_two names names' nmark bands bands' bmark (record { fault = 3; name = 0; code = 0; next = at })
+    pub checks_wide : r.fields ≢ 2 → ChecksRow file at of_two names names' nmark bands bands' bmark (Err fault.WrongWidth)
     checks_wide w = record {
       names_kept = h.names_kept;
       bands_kept = h.bands_kept;
       fault = sym (fault_wide of_two here (sym h.good ∙ g) (λ e. w ((h.found (sym h.good ∙ g)).width ∙ e)));
-      found = λ z. absurd (omega arith);
+      found = tt;
     }
 
-    pub checks_two : (f : ℕ) → r.fields ≡ 2 → f ≡ of_two (part_of names' nmark r.name) (part_of bands' bmark r.code)
-        → ChecksRow file at of_two names names' nmark bands bands' bmark
-        (record { fault = f; name = r.name; code = r.code; next = r.next })
-    checks_two f w e =
-        let good : here.good ≡ true = sym h.good ∙ g in
-        let found = h.found good in
-        let two : length here.fields ≡ 2 = sym found.width ∙ w in
-        record {
-          names_kept = h.names_kept;
-          bands_kept = h.bands_kept;
-          fault = cc (e, fault_two of_two here good two, found.name_is two, found.code_is two);
-          found = λ z. record {
-            rest = found.rest;
-            within = found.within;
-            onward = found.onward;
-            name_fits = found.name_fits;
-            code_fits = found.code_fits;
-            name_is = found.name_is two;
-            code_is = found.code_is two;
-          };
-        }
+    module _ (w : r.fields ≡ 2) where
+      two : length here.fields ≡ 2
+      two = sym (h.found (sym h.good ∙ g)).width ∙ w
+
+      of_fields : {k : ℕ} → k ≡ of_two (part_of names' nmark r.name) (part_of bands' bmark r.code) → k ≡ row_fault of_two here
+      of_fields e =
+          let found = h.found (sym h.good ∙ g) in
+          cc (e, fault_two of_two here (sym h.good ∙ g) two, found.name_is two, found.code_is two)
+
+      pub checks_fault : {f : Fault} → number_of f ≡ of_two (part_of names' nmark r.name) (part_of bands' bmark r.code)
+          → ChecksRow file at of_two names names' nmark bands bands' bmark (Err f)
+      checks_fault e = record {
+        names_kept = h.names_kept;
+        bands_kept = h.bands_kept;
+        fault = of_fields e;
+        found = tt;
+      }
+
+      pub checks_two : 0 ≡ of_two (part_of names' nmark r.name) (part_of bands' bmark r.code)
+          → ChecksRow file at of_two names names' nmark bands bands' bmark
+          (Ok (record { name = r.name; code = r.code; next = r.next }))
+      checks_two e =
+          let found = h.found (sym h.good ∙ g) in
+          record {
+            names_kept = h.names_kept;
+            bands_kept = h.bands_kept;
+            fault = of_fields e;
+            found = record {
+              rest = found.rest;
+              within = found.within;
+              onward = found.onward;
+              name_fits = found.name_fits;
+              code_fits = found.code_fits;
+              name_is = found.name_is two;
+              code_is = found.code_is two;
+            };
+          }
 
 -- The fields' own fault, by its tests.
 abbrev by_tests : Bool → Bool → Bool → Bool → Bool → Bool → ℕ

@@ -15,9 +15,12 @@ use Rattle.lists.specs.Runs.{codes_in}
 use Rattle.grammar.specs.Files.{Orders, orders, bad, add}
 use Rattle.grammar.specs.Rows.{first_row}
 use Rattle.grammar.specs.Orders.{head_fault_lem, entry_fault_lem, name_in, code_in, row_fault, rows_from, read_orders_lem}
-use Rattle.entries.specs.Gathering.{ChecksRow, entries_from, Roomy, Filed, Gathers, refused_with}
+use Rattle.entries.specs.Gathering.{ChecksRow, entries_from, Roomy, Filed, Gathers}
+use Rattle.std.specs.Prelude.{Result, Ok, Err}
+use Rattle.lists.specs.Answers.{number_of, number_told}
+use Rattle.lists.specs.declared.numbers.Fault.{Fault}
+use Rattle.lists.proofs.Table.{some_number}
 use Rattle.entries.specs.declared.checks.Checked.{Checked}
-use Rattle.entries.specs.declared.collect.Gathered.{Gathered}
 use Rattle.grammar.proofs.Faults.{of_entry, sound_row}
 use Rattle.grammar.proofs.Entries.{name_kept, code_kept, room}
 use Rattle.entries.proofs.Filing.{filed_none, filed_count, filed_words, filed_add, length_part}
@@ -87,18 +90,15 @@ begins file {bands} {ls} {names} {sizes} at h few r = record {
 }
 
 -- Before that the heading is read.
-module _ {file names names' bands bands' : List ℕ} {r : Checked} (few : length file ≤ 16384)
-    (some : 0 < length file) (h : ChecksRow file 0 head_fault_lem names names' 0 bands bands' 0 r) where
-  pub good_heading : r.fault ≡ 0 → read_orders_lem file ≡ entries_from file r.next
+module _ {file names names' bands bands' : List ℕ} (few : length file ≤ 16384) (some : length file ≢ 0) where
+  pub good_heading : {r : Checked} → ChecksRow file 0 head_fault_lem names names' 0 bands bands' 0 (Ok r)
+      → read_orders_lem file ≡ entries_from file r.next
   unfolding entries_from
-  good_heading z =
-      let ne : length file ≢ 0 = λ e. omega arith in
-      rw (h.found z).rest (head_good file few ne (sym h.fault ∙ z))
+  good_heading h = rw h.found.rest (head_good file few some (sym h.fault))
 
-  pub bad_heading : r.fault ≢ 0 → read_orders_lem file ≡ bad r.fault 1
-  bad_heading e =
-      let ne : length file ≢ 0 = λ e. omega arith in
-      rw h.fault (head_bad file few ne (λ z. e (h.fault ∙ z)))
+  pub bad_heading : {f : Fault} → ChecksRow file 0 head_fault_lem names names' 0 bands bands' 0 (Err f)
+      → read_orders_lem file ≡ bad (number_of f) 1
+  bad_heading {f} h = rw h.fault (head_bad file few some (λ z. absurd (omega (arith, h.fault ∙ z, some_number f))))
 
 -- It goes on past an entry, or ends at a faulty row.
 module _ {x : Orders} {file bands ls names sizes : List ℕ} {at count bmark nmark : ℕ}
@@ -109,42 +109,44 @@ module _ {x : Orders} {file bands ls names sizes : List ℕ} {at count bmark nma
   abbrev here : List ℕ
   here = drop at file
 
-  module _ {names' bands' : List ℕ} {r : Checked} (left : at < length file)
-      (h : ChecksRow file at (entry_fault_lem so_far) names names' nmark bands bands' bmark r) where
-    is_fault : r.fault ≡ row_fault (entry_fault_lem g.ns) (first_row here)
-    is_fault = h.fault ∙ ap (λ ns. row_fault (entry_fault_lem ns) (first_row here)) (filed_words g.names_filed)
+  bytes : at < length file → length here ≢ 0
+  bytes left e = omega (arith, length-drop at file)
 
-    bytes : length here ≢ 0
-    bytes e = omega (arith, length-drop at file)
+  is_fault : {names' bands' : List ℕ} {r : Result Checked Fault}
+      → ChecksRow file at (entry_fault_lem so_far) names names' nmark bands bands' bmark r
+      → number_told r ≡ row_fault (entry_fault_lem g.ns) (first_row here)
+  is_fault h = h.fault ∙ ap (λ ns. row_fault (entry_fault_lem ns) (first_row here)) (filed_words g.names_filed)
 
-    pub bad_entry : r.fault ≢ 0 → x ≡ bad r.fault (2 + count)
-    bad_entry e =
+  module _ {names' bands' : List ℕ} (left : at < length file) where
+    pub bad_entry : {f : Fault} → ChecksRow file at (entry_fault_lem so_far) names names' nmark bands bands' bmark (Err f)
+        → x ≡ bad (number_of f) (2 + count)
+    bad_entry {f} h =
         sym g.goes
-        ∙ (rows_fault g.fuel (2 + count) g.ns g.cs here bytes (λ z. e (is_fault ∙ z))
-        ∙ ap (λ n. bad n (2 + count)) (sym is_fault))
+        ∙ (rows_fault g.fuel (2 + count) g.ns g.cs here (bytes left) (λ z. absurd (omega (arith, is_fault h ∙ z, some_number f)))
+        ∙ ap (λ n. bad n (2 + count)) (sym (is_fault h)))
 
-    module _ (z : r.fault ≡ 0) where
+    module _ {r : Checked} (h : ChecksRow file at (entry_fault_lem so_far) names names' nmark bands bands' bmark (Ok r)) where
       -- its fields lie behind the marks
       name_in_lem : nmark + r.name ≤ length names
-      name_in_lem = let found = h.found z in omega (arith, found.name_fits, found.within, g.name_room)
+      name_in_lem = let found = h.found in omega (arith, found.name_fits, found.within, g.name_room)
 
       code_in_lem : bmark + r.code ≤ length bands
-      code_in_lem = let found = h.found z in omega (arith, found.code_fits, found.within, g.code_room)
+      code_in_lem = let found = h.found in omega (arith, found.code_fits, found.within, g.code_room)
 
       name_size : length (name_in (first_row here)) ≡ r.name
       name_size =
-          ap length (h.found z).name_is
+          ap length h.found.name_is
           ∙ length_part names' nmark r.name (omega (arith, name_in_lem, h.names_kept.as_long))
 
       code_size : length (code_in (first_row here)) ≡ r.code
       code_size =
-          ap length (h.found z).code_is
+          ap length h.found.code_is
           ∙ length_part bands' bmark r.code (omega (arith, code_in_lem, h.bands_kept.as_long))
 
       -- the name has at most 24 bytes, the code at most 64, and there is room for one more
       pub small : (r.name ≤ 24) × (r.code ≤ 64) × (count < 128)
       small =
-          let sound = (sound_row (of_entry g.ns) here (sym is_fault ∙ z)).1 in
+          let sound = (sound_row (of_entry g.ns) here (sym (is_fault h))).1 in
           let n : count < 128 = omega (arith, room sound, filed_count g.names_filed) in
           (omega (arith, name_kept sound, name_size), omega (arith, code_kept sound, code_size), n)
 
@@ -159,9 +161,9 @@ module _ {x : Orders} {file bands ls names sizes : List ℕ} {at count bmark nma
           by : (f : ℕ) → rows_from (suc f) (2 + count) g.ns g.cs here ≡ x → length file - at ≤ f → Onward
           by zero y l = absurd (omega arith)
           by (suc f) y l =
-              let found = h.found z in
+              let found = h.found in
               let k : 2 + (count + 1) ≡ suc (2 + count) = omega arith in
-              let on = rows_on (suc f) (2 + count) g.ns g.cs here bytes (sym is_fault ∙ z) in
+              let on = rows_on (suc f) (2 + count) g.ns g.cs here (bytes left) (sym (is_fault h)) in
               let few : count < 128 = small.2 in
               let n : count < length sizes = omega (arith, g.sizes_room) in
               let c : count < length ls = omega (arith, g.lengths_room) in
@@ -199,26 +201,9 @@ module _ {x : Orders} {file bands ls names sizes : List ℕ} {at count bmark nma
         at_end ∙ ap by_count (ne_eqb (length g.cs) 0 (λ q. e (omega (arith, filed_count g.codes_filed))))
 
     pub gathered : count ≢ 0
-        → Gathers x bands ls names sizes (record { number = 0; row = 0; codes = count; bands = bmark; names = nmark })
+        → Gathers x bands ls names sizes (Ok (record { codes = count; bands = bmark; names = nmark }))
     gathered e = rw (all_entries e) (record {
-      number = refl;
-      row = refl;
-      whole = λ z. refl;
+      accepted = refl;
       codes_filed = g.codes_filed;
       names_filed = g.names_filed;
     })
-
--- A refusal gathers nothing.
-pub gathers_bad : {x : Orders} {r : Gathered} {n k : ℕ} (bands ls names sizes : List ℕ) → x ≡ bad n k → n ≢ 0
-    → r ≡ refused_with n k → Gathers x bands ls names sizes r
-gathers_bad bands ls names sizes e h q = rw (e, q) (record {
-  number = refl;
-  row = refl;
-  whole = λ z. absurd (h z);
-  codes_filed = filed_none bands ls;
-  names_filed = filed_none names sizes;
-})
-
-pub gathers_same : {x y : Orders} {bands ls names sizes : List ℕ} {r : Gathered} → x ≡ y
-    → Gathers y bands ls names sizes r → Gathers x bands ls names sizes r
-gathers_same e g = rw e g

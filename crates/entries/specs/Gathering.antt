@@ -1,8 +1,11 @@
 -- What the reader's steps give: a row with its fault, and after all rows the answer for the file, with the words gathered
 -- in two runs.
-use Rattle.std.specs.Prelude.{◌≡◌, Bool, true, false, List, [], ℕ, suc, ◌+◌, ◌≤◌, ◌<◌, length, take, drop}
+use Rattle.std.specs.Prelude.{◌≡◌, Bool, true, false, List, [], ℕ, suc, ◌+◌, ◌≤◌, ◌<◌, length, take, drop, Result, Ok, Err, IfOk}
+use Rattle.lists.specs.Answers.{number_of, number_told}
+use Rattle.lists.specs.declared.numbers.Fault.{Fault}
+use Rattle.lists.specs.declared.numbers.Refusal.{Refusal}
 use Rattle.lists.specs.Runs.{flat, lengths}
-use Rattle.grammar.specs.Files.{Orders}
+use Rattle.grammar.specs.Files.{Orders, orders, bad}
 use Rattle.grammar.specs.Rows.{Row, first_row}
 use Rattle.grammar.specs.Orders.{head_fault_lem, entry_fault_lem, name_in, code_in, row_fault, rows_from}
 use Rattle.rows.specs.Scans.{part_of, KeptTo}
@@ -24,12 +27,12 @@ pub record EntryFound (file : List ℕ) (at : ℕ) (names : List ℕ) (nmark : �
   pub name_is : name_in x ≡ part_of names nmark r.name
   pub code_is : code_in x ≡ part_of bands bmark r.code
 
--- the row that begins here, with the fault that the test of two fields finds
-pub record ChecksRow (file : List ℕ) (at : ℕ) (of_two : List ℕ → List ℕ → ℕ) (names names' : List ℕ) (nmark : ℕ) (bands bands' : List ℕ) (bmark : ℕ) (r : Checked) : Type 0 where
+-- the row that begins here, or its fault, where a test finds that of the two fields
+pub record ChecksRow (file : List ℕ) (at : ℕ) (of_two : List ℕ → List ℕ → ℕ) (names names' : List ℕ) (nmark : ℕ) (bands bands' : List ℕ) (bmark : ℕ) (r : Result Checked Fault) : Type 0 where
   pub names_kept : KeptTo nmark names names'
   pub bands_kept : KeptTo bmark bands bands'
-  pub fault : r.fault ≡ row_fault of_two (first_row (drop at file))
-  pub found : r.fault ≡ 0 → EntryFound file at names' nmark bands' bmark (first_row (drop at file)) r
+  pub fault : number_told r ≡ row_fault of_two (first_row (drop at file))
+  pub found : IfOk r (λ c. EntryFound file at names' nmark bands' bmark (first_row (drop at file)) c)
 
 -- the answer from the entries on that begin here, none before them
 unfoldable pub entries_from : List ℕ → ℕ → Orders
@@ -50,13 +53,12 @@ pub record Filed (words : List (List ℕ)) (run : List ℕ) (mark : ℕ) (ls : L
   pub in_lengths : count ≤ length ls
 
 -- the answer for a file, with its codes and its names in the runs
-pub record Gathers (x : Orders) (bands ls names sizes : List ℕ) (r : Gathered) : Type 0 where
-  pub number : r.number ≡ x.number
-  pub row : r.row ≡ x.line
-  pub whole : r.number ≡ 0 → r.row ≡ 0
-  pub codes_filed : Filed x.codes bands r.bands ls r.codes
-  pub names_filed : Filed x.names names r.names sizes r.codes
+pub record Gathering (x : Orders) (bands ls names sizes : List ℕ) (g : Gathered) : Type 0 where
+  pub accepted : x ≡ orders 0 0 x.names x.codes
+  pub codes_filed : Filed x.codes bands g.bands ls g.codes
+  pub names_filed : Filed x.names names g.names sizes g.codes
 
--- a refusal: nothing is gathered
-abbrev pub refused_with : ℕ → ℕ → Gathered
-refused_with n k = record { number = n; row = k; codes = 0; bands = 0; names = 0 }
+-- or refused
+abbrev pub Gathers : Orders → List ℕ → List ℕ → List ℕ → List ℕ → Result Gathered Refusal → Type 0
+Gathers x bands ls names sizes (Ok g) = Gathering x bands ls names sizes g
+Gathers x bands ls names sizes (Err r) = x ≡ bad (number_of r.fault) r.row

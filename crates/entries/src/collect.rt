@@ -1,16 +1,14 @@
 // Row after row: the names and codes of a file, one behind the other.
-ghost use Rattle.std.specs.Prelude.{◌≡◌, ◌≤◌, ◌<◌, length};
+ghost use Rattle.std.specs.Prelude.{◌≤◌, ◌<◌, length};
 ghost use Rattle.grammar.specs.Orders.{read_orders_lem};
-ghost use Rattle.entries.specs.Gathering.{entries_from, Roomy, Gathers, refused_with};
+ghost use Rattle.entries.specs.Gathering.{entries_from, Roomy, Gathers};
 
 use crate::checks::check_row;
+use lists::{Fault, Refusal};
 
-// The answer for a file: a refusal's number and row, or 0 and 0 with how many codes, bands and bytes of names were
-// gathered.
-#[derive(Drop)]
+// How many codes were gathered, and how many bands and bytes of names in them.
+#[derive(Clone, Copy)]
 pub struct Gathered {
-    pub number: u8,
-    pub row: u32,
     pub codes: usize,
     pub bands: usize,
     pub names: usize,
@@ -23,15 +21,14 @@ pub fn gather(
     lengths: &mut [u16],
     names: &mut [u8],
     sizes: &mut [u16],
-) -> Gathered
+) -> Result<Gathered, Refusal>
     requires { (0 < length file.now) × (length file.now ≤ 16384) × Roomy bands.old lengths.old names.old sizes.old }
     ensures { Gathers (read_orders_lem file.now) bands.new lengths.new names.new sizes.new result }
 {
-    let head = check_row(file, 0, true, names, 0, &sizes[..0], bands, 0);
-    let fault = head.fault;
-    if fault != 0 {
-        return refused(fault, 1);
-    }
+    let head = check_row(file, 0, true, names, 0, &sizes[..0], bands, 0).map_err(|fault| Refusal {
+        fault,
+        row: 1,
+    })?;
     gather_entries(file, head.next, bands, lengths, names, sizes)
 }
 
@@ -43,7 +40,7 @@ fn gather_entries(
     lengths: &mut [u16],
     names: &mut [u8],
     sizes: &mut [u16],
-) -> Gathered
+) -> Result<Gathered, Refusal>
     requires { (start ≤ length file.now) × (length file.now ≤ 16384) × Roomy bands.old lengths.old names.old sizes.old }
     ensures { Gathers (entries_from file.now start) bands.new lengths.new names.new sizes.new result }
 {
@@ -52,11 +49,10 @@ fn gather_entries(
     let mut bmark: usize = 0;
     let mut nmark: usize = 0;
     while at < file.len() {
-        let row = check_row(file, at, false, names, nmark, &sizes[..count], bands, bmark);
-        let fault = row.fault;
-        if fault != 0 {
-            return refused(fault, (2 + count) as u32);
-        }
+        let line = (2 + count) as u32;
+        let row = check_row(file, at, false, names, nmark, &sizes[..count], bands, bmark).map_err(
+            |fault| Refusal { fault, row: line },
+        )?;
         lengths[count] = row.code as u16;
         sizes[count] = row.name as u16;
         bmark += row.code;
@@ -65,26 +61,11 @@ fn gather_entries(
         at = row.next;
     }
     if count == 0 {
-        return refused(lists::EMPTY_LIST, 0);
+        return Err(Fault::EmptyList.into());
     }
-    Gathered {
-        number: 0,
-        row: 0,
+    Ok(Gathered {
         codes: count,
         bands: bmark,
         names: nmark,
-    }
-}
-
-// Refused: nothing is gathered.
-fn refused(number: u8, row: u32) -> Gathered
-    ensures { result ≡ refused_with number row }
-{
-    Gathered {
-        number,
-        row,
-        codes: 0,
-        bands: 0,
-        names: 0,
-    }
+    })
 }

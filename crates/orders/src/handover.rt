@@ -6,18 +6,9 @@ ghost use Rattle.entries.specs.Gathering.{Roomy};
 ghost use Rattle.grammar.specs.Answers.{lent};
 ghost use Rattle.orders.specs.Calls.{Lacks, HandsOver};
 
-use crate::Read;
+use crate::Orders;
 use entries::Gathered;
-use lists::Refusal;
-
-pub fn refused(number: u8, row: u32) -> Read
-    ensures { result ≡ Read.Refused (record { number = number; row = row }) }
-{
-    Read::Refused(Refusal {
-        number: number,
-        row: row,
-    })
-}
+use lists::{Fault, Refusal};
 
 // Whether a buffer is too short for what was gathered: they have room for so many bands, lengths, bytes of names and sizes.
 #[tactic(auto, using(crate::proofs::HandingOver::lacks_some, crate::proofs::HandingOver::lacks_last))]
@@ -47,29 +38,25 @@ pub fn hand_over(
     lengths: &mut [u16],
     names: &mut [u8],
     sizes: &mut [u16],
-) -> Read
+) -> Result<Orders, Refusal>
     requires { (all.bands ≤ 16384) × (all.names ≤ 16384) × (all.codes ≤ 128) × Roomy code_run.now code_lengths.now name_run.now name_lengths.now }
     ensures { HandsOver all code_run.now code_lengths.now name_run.now name_lengths.now (lent bands.old lengths.old names.old sizes.old) (lent bands.new lengths.new names.new sizes.new) result }
 {
-    let number = all.number;
     let codes = all.codes;
     let band_count = all.bands;
     let name_count = all.names;
-    if number != 0 {
-        return refused(number, all.row);
-    }
     if lacks(all, bands.len(), lengths.len(), names.len(), sizes.len()) {
-        return refused(lists::SHORT_BUFFER, 0);
+        return Err(Fault::ShortBuffer.into());
     }
     matching::put_word(&code_run[..band_count], bands, 0);
     copy_lengths(code_lengths, codes, lengths);
     matching::put_word(&name_run[..name_count], names, 0);
     copy_lengths(name_lengths, codes, sizes);
-    Read::Orders {
+    Ok(Orders {
         codes: codes as u32,
         bands: band_count as u32,
         names: name_count as u32,
-    }
+    })
 }
 
 // The first n lengths, written at the beginning of a buffer.

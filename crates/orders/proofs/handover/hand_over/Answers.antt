@@ -3,17 +3,12 @@ use mathlib.Core.Path.{sym}
 use lib.Seq.{length-take-le}
 use Rattle.words.proofs.Deciding.{holds, fails}
 use Rattle.lists.proofs.Runs.{written_over}
-use Rattle.orders.proofs.HandingOver.{part_fits, none_lacks, gives_refused, gives_short, gives_filled}
+use Rattle.orders.proofs.HandingOver.{part_fits, none_lacks, gives_short, gives_filled}
 use borrow.Author.Rules.{rules}
 use Rattle.orders.proofs.handover.hand_over.Goals as goal
 
-pub returns-then-number-ne0 : goal.returns-then-number-ne0
-returns-then-number-ne0 c = λ x g. rw c.refused.ensures (gives_refused g _ c.if-number-ne0.true)
-
 pub returns-then-lacks : goal.returns-then-lacks
-returns-then-lacks c =
-    λ x g.
-    rw c.refused-then-lacks.ensures (gives_short g _ c.if-number-ne0.false (holds c.lacks.ensures c.if-lacks.true))
+returns-then-lacks c = λ x g. rw c.into.ensures (gives_short g _ (holds c.lacks.ensures c.if-lacks.true))
 
 pub slice_bounds-put_word-end : goal.slice_bounds-put_word-end
 slice_bounds-put_word-end c = sym (length-take-le _ _ (search rules))
@@ -42,6 +37,6 @@ copy_lengths-requires-2 c = let f = none_lacks c.args.all (fails c.lacks.ensures
 pub returns : goal.returns
 returns c =
     λ x g.
-    gives_filled g _ c.if-number-ne0.false (fails c.lacks.ensures c.if-lacks.false)
+    gives_filled g _ (fails c.lacks.ensures c.if-lacks.false)
     (written_over c.put_word.ensures).1 c.copy_lengths.ensures (written_over c.put_word-2.ensures).1
     c.copy_lengths-2.ensures
