@@ -16,7 +16,7 @@ sheet_size-size-requires c = there c.requires c.show_codes-shown.ensures
 pub returns-then-out-size : goal.returns-then-out-size
 returns-then-out-size c =
     sheet_short c.requires c.show_codes-shown.ensures c.sheet_size-size.ensures c.args.saved c.args.out.now
-    c.if-out-size.true c.refused.ensures
+    c.if-out-size.true (rw c.into.ensures)
 
 pub put_sheet-requires : goal.put_sheet-requires
 put_sheet-requires c =
