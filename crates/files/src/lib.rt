@@ -17,6 +17,7 @@ pub fn read_whole(file: &mut impl Read, buffer: &mut [u8]) -> usize
     ensures front { result ≡ length (take result buffer.new) }
 {
     let mut done = 0;
+    // a loop over `read`: `read_to_end` puts the bytes on the heap, and `read_exact` wants to know how many there are
     while done < buffer.len() {
         let Ok(n) = file.read(&mut buffer[done..]) else {
             return 0;

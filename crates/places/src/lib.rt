@@ -12,7 +12,7 @@ pub use records::{count_from, find_nth};
 use records::{is_nowhere, place_of, record_of};
 
 // A way of a code, with the start at which it stands: either for a code equal to its turned form.
-#[derive(Clone, Copy)]
+#[derive(Clone, Copy, PartialEq, Eq)]
 pub enum Way {
     Given(u32),
     Turned(u32),
@@ -20,7 +20,7 @@ pub enum Way {
 }
 
 // A place record: the code's number, and its way with the start.
-#[derive(Clone, Copy)]
+#[derive(Clone, Copy, PartialEq, Eq)]
 pub struct Place {
     pub code: u32,
     pub way: Way,
