@@ -7,12 +7,12 @@ use arrayvec::ArrayVec;
 pub type Code = ArrayVec<u8, 64>;
 
 // So many drawn bands.
-pub fn fresh(n: usize, letters: Letters, draws: &mut Draws) -> Code {
-    let mut code = Code::new();
+pub fn fresh<const N: usize>(n: usize, letters: Letters, draws: &mut Draws) -> ArrayVec<u8, N> {
+    let mut bands = ArrayVec::new();
     for _ in 0..n {
-        let _ = code.try_push(letters.draw(draws));
+        let _ = bands.try_push(letters.draw(draws));
     }
-    code
+    bands
 }
 
 // A palindrome, but for one in four.
@@ -21,7 +21,7 @@ pub fn palindrome(letters: Letters, draws: &mut Draws) -> Code {
     if draws.below(4) == 0 {
         return fresh(n, letters, draws);
     }
-    let half = fresh(n.div_ceil(2), letters, draws);
+    let half: Code = fresh(n.div_ceil(2), letters, draws);
     let mut code = Code::new();
     let _ = code.extend(half.iter().chain(half.iter().rev().skip(n % 2)).copied());
     code

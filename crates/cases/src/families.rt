@@ -45,16 +45,6 @@ pub struct Plan {
     word: Word,
 }
 
-// A word of four letters.
-fn draw_word(draws: &mut Draws) -> Word {
-    let n = 40 + draws.below(60);
-    let mut word = Word::new();
-    for _ in 0..n {
-        let _ = word.try_push(Letters::First(4).draw(draws));
-    }
-    word
-}
-
 impl Plan {
     fn new(family: Family, due: usize, letters: Letters) -> Self {
         Plan {
@@ -67,11 +57,13 @@ impl Plan {
 
     // Parts of a word.
     fn chains(draws: &mut Draws) -> Self {
-        let word = draw_word(draws);
+        let letters = Letters::First(4);
+        let n = 40 + draws.below(60);
+        let word = fresh(n, letters, draws);
         Plan {
             family: Family::Chains,
             due: 3 + draws.below(18),
-            letters: Letters::First(4),
+            letters,
             word,
         }
     }

@@ -20,6 +20,13 @@ pub fn lend<T: Item>(buffer: &mut [T], n: usize) -> &mut [T] {
     &mut buffer[..end]
 }
 
+// A row of bytes that is ready for a call.
+pub fn lent_row<const N: usize>() -> [u8; N] {
+    let mut row = [0u8; N];
+    lend(&mut row, N);
+    row
+}
+
 // The line of what goes into a call.
 pub fn say_items<T: Item>(t: &mut Tally<impl Print>, label: &str, items: &[T]) -> fmt::Result {
     writeln!(t, "{label},{},{}", items.len(), Listed(items))

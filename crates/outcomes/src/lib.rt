@@ -8,5 +8,5 @@ mod records; // place records among them
 
 pub use answers::{Answer, say_answer};
 pub use items::{Item, Listed};
-pub use lent::{MOST_BYTES, MOST_NUMBERS, lend, say_items, tell, tell_since};
+pub use lent::{MOST_BYTES, MOST_NUMBERS, lend, lent_row, say_items, tell, tell_since};
 pub use records::{MOST_RECORDS, blank_record};

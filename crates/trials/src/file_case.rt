@@ -1,13 +1,10 @@
 // A case of an order list: reading it, and what the ribbon program and the sheet program write.
 use cases::FileRooms;
-use outcomes::{MOST_BYTES, MOST_NUMBERS, lend, say_answer, say_items, tell};
-use ribbons::{MOST_BANDS, MOST_SHEET_BYTES, Orders};
+use outcomes::{MOST_BYTES, MOST_NUMBERS, lend, lent_row, say_answer, say_items, tell};
+use ribbons::Orders;
 use std::fmt;
 use std::fmt::Write;
 use telling::Tally;
-
-// a ribbon and CR LF
-const LINE: usize = MOST_BANDS + 2;
 
 // The file read into four lent buffers.
 fn tell_read(t: &mut Tally<impl Print>, file: &[u8], rooms: FileRooms) -> fmt::Result {
@@ -34,16 +31,14 @@ fn tell_read(t: &mut Tally<impl Print>, file: &[u8], rooms: FileRooms) -> fmt::R
 
 // The ribbon program's output.
 fn tell_ribbon_output(t: &mut Tally<impl Print>, file: &[u8]) -> fmt::Result {
-    let mut out = [0u8; LINE];
-    lend(&mut out, LINE);
+    let mut out = lent_row();
     let n = ribbons::ribbon_output(file, &mut out);
     tell(t, "ribbon_output", &out, n)
 }
 
 // The sheet program's.
 fn tell_sheet_output(t: &mut Tally<impl Print>, file: &[u8]) -> fmt::Result {
-    let mut out = [0u8; MOST_SHEET_BYTES];
-    lend(&mut out, MOST_SHEET_BYTES);
+    let mut out = lent_row();
     let n = ribbons::sheet_output(file, &mut out);
     tell(t, "sheet_output", &out, n)
 }

@@ -1,5 +1,5 @@
 // A case of an order list and a ribbon file: the part of the file that is the ribbon, and what the check program writes.
-use outcomes::{lend, say_items, tell};
+use outcomes::{lent_row, say_items, tell};
 use std::fmt;
 use std::fmt::Write;
 use telling::Tally;
@@ -10,8 +10,7 @@ pub fn run_pair(t: &mut Tally<impl Print>, k: u64, list: &[u8], ribbon: &[u8]) -
     say_items(t, "list", list)?;
     say_items(t, "ribbon", ribbon)?;
     say_items(t, "bands", ribbons::ribbon_of(ribbon))?;
-    let mut out = [0u8; 32];
-    lend(&mut out, 32);
+    let mut out = lent_row();
     let n = ribbons::check_output(list, ribbon, &mut out);
     tell(t, "check_output", &out, n)
 }
