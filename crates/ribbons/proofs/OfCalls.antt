@@ -2,6 +2,7 @@
 -- that gives it.
 use mathlib.Core.Path.{◌≡◌, refl, ap, subst}
 use mathlib.Core.Logic.{inl, inr}
+use Rattle.std.proofs.Common.{Result, Ok, Err}
 use mathlib.Core.List.{List}
 use Prim.Native.Nat.{ℕ, suc, ◌≤◌}
 use native.Mathlib.Omega.{arith}
@@ -13,6 +14,7 @@ use Rattle.words.proofs.Lists.{each_map}
 use Rattle.words.proofs.Turning.{turning}
 use Rattle.words.proofs.Deciding.{holds, passes}
 use Rattle.lists.specs.Runs.{codes_in}
+use Rattle.lists.specs.declared.numbers.Refusal.{Refusal}
 use Rattle.lists.specs.Rules.{Band, CodeRule, Printed, NameRule}
 use Rattle.lists.proofs.Rules.{codes_checked, names_checked, is_fit_list, is_fit_names}
 use Rattle.joins.specs.Rules.{Chosen}
@@ -22,14 +24,15 @@ use Rattle.greedy.proofs.Laying.{lays_twice}
 use Rattle.sheets.specs.Answers.{SheetAnswer, SheetOutcome, written, SheetsInto}
 use Rattle.sheets.specs.Answers as sheet
 use Rattle.sheets.proofs.ReadBack.{reads_back}
-use Rattle.checking.specs.Check.{Missing, none_missing, missing, all_held}
+use Rattle.checking.specs.Check as check
+use Rattle.checking.specs.Check.{none_missing, missing, all_held}
 use Rattle.checking.specs.Answers.{CheckAnswer, CheckOutcome, refused, missing_code, held, Fit, ChecksInto}
 use Rattle.checking.specs.Answers.{false_list, long_ribbon, no_colour, no_place, short_buffer, filled}
 use Rattle.places.specs.Calls.{record_of_lem, records_of}
 use Rattle.verdicts.specs.Calls.{ChecksRibbon}
 use Rattle.places.specs.declared.Place as declared
 use Rattle.verdicts.specs.declared.Checked.{Checked}
-use Rattle.verdicts.specs.declared.Checked.TheVariants as checked
+use Rattle.verdicts.specs.declared.Checked.TheVariants.{Missing, Held}
 use Rattle.checking.proofs.Check.{missing_one}
 use Rattle.ribbons.specs.Demands.{PassesExactly, SheetIs, SheetIsTrue}
 
@@ -39,7 +42,7 @@ kind (refused r) = 0
 kind (missing_code k) = 1
 kind (held d) = 2
 
-abbrev is_one : Missing → ℕ
+abbrev is_one : check.Missing → ℕ
 is_one none_missing = 0
 is_one (missing k) = 1
 
@@ -71,11 +74,11 @@ module _ (run ls row : List ℕ) (before after : List declared.Place) where
   not_refused (short_buffer f b l) e fit a room = omega (arith, length-map before record_of_lem)
   not_refused (filled rs f b l x y z) e fit a room = omega arith
 
-  stands_held : (r : Checked) → Fit run ls row → AllStand turned (codes_in run ls) row → length ls ≤ length before
-      → ChecksRibbon run ls row before after r → (d : ℤ) × (r ≡ checked.Held d)
-  stands_held (checked.Refused x) fit a room p = absurd (not_refused p.means refl fit a room)
-  stands_held (checked.Missing k) fit a room p = absurd (missing_stands_not p.means refl a)
-  stands_held (checked.Held d) fit a room p = (d, refl)
+  stands_held : (r : Result Checked Refusal) → Fit run ls row → AllStand turned (codes_in run ls) row → length ls ≤ length before
+      → ChecksRibbon run ls row before after r → (d : ℤ) × (r ≡ Ok (Held d))
+  stands_held (Ok (Missing k)) fit a room p = absurd (missing_stands_not p.means refl a)
+  stands_held (Ok (Held d)) fit a room p = (d, refl)
+  stands_held (Err x) fit a room p = absurd (not_refused p.means refl fit a room)
 
 pub passes_exactly : PassesExactly
 passes_exactly =
@@ -121,5 +124,5 @@ module _ (run ls name_run name_ls before after : List ℕ) (bytes saved : ℕ) w
       }
 
 pub sheet_is_true : SheetIsTrue
-sheet_is_true run ls name_run name_ls before after bytes saved p =
-    sheet_is run ls name_run name_ls before after bytes saved p.means refl refl refl
+sheet_is_true run ls name_run name_ls before after wrote p =
+    sheet_is run ls name_run name_ls before after wrote.bytes wrote.saved p.means refl refl refl

@@ -1,0 +1,75 @@
+// An order list that was read, in memory of its own, as the programs have it.
+ghost use Rattle.std.specs.Prelude.{◌≡◌, true, ◌≤◌, length, take};
+ghost use Rattle.lists.specs.Fit.{list_ok_lem, names_ok_lem};
+
+use lists::{MOST_BANDS, MOST_CODES, MOST_NAME_BYTES, Refusal};
+use orders::{Orders, read_orders};
+
+// How much was read, at the beginnings of buffers that suffice for any list; its codes and names are fit.
+#[derive(Drop)]
+pub struct OrderList {
+    pub counts: Orders,
+    pub bands: [u8; MOST_BANDS],
+    pub lengths: [u16; MOST_CODES],
+    pub names: [u8; MOST_NAME_BYTES],
+    pub sizes: [u16; MOST_CODES],
+    ghost in_bands: { counts.bands ≤ 8192 },
+    ghost in_codes: { counts.codes ≤ 128 },
+    ghost in_names: { counts.names ≤ 3072 },
+    ghost list_fits: { list_ok_lem (take counts.bands bands) (take counts.codes lengths) ≡ true },
+    ghost names_fit: { names_ok_lem (length (take counts.codes lengths)) (take counts.names names) (take counts.codes sizes) ≡ true },
+}
+
+impl OrderList {
+    ghost use Rattle.ribbons.specs.OrderLists.{ReadAs};
+
+    // The list in a file, or its refusal, which is never one of our buffers.
+    pub fn read(file: &[u8]) -> Result<OrderList, Refusal>
+        ensures { ReadAs file.now result }
+    {
+        let mut bands = [0u8; MOST_BANDS];
+        let mut lengths = [0u16; MOST_CODES];
+        let mut names = [0u8; MOST_NAME_BYTES];
+        let mut sizes = [0u16; MOST_CODES];
+        let counts = read_orders(file, &mut bands, &mut lengths, &mut names, &mut sizes)?;
+        Ok(OrderList {
+            counts,
+            bands,
+            lengths,
+            names,
+            sizes,
+        })
+    }
+
+    // The run of its codes.
+    pub fn bands(&self) -> &[u8]
+        ensures { result.now ≡ take self.now.counts.bands self.now.bands }
+    {
+        let n = self.counts.bands as usize;
+        &self.bands[..n]
+    }
+
+    // The codes' lengths.
+    pub fn lengths(&self) -> &[u16]
+        ensures { result.now ≡ take self.now.counts.codes self.now.lengths }
+    {
+        let n = self.counts.codes as usize;
+        &self.lengths[..n]
+    }
+
+    // The run of its names.
+    pub fn names(&self) -> &[u8]
+        ensures { result.now ≡ take self.now.counts.names self.now.names }
+    {
+        let n = self.counts.names as usize;
+        &self.names[..n]
+    }
+
+    // The names' lengths.
+    pub fn sizes(&self) -> &[u16]
+        ensures { result.now ≡ take self.now.counts.codes self.now.sizes }
+    {
+        let n = self.counts.codes as usize;
+        &self.sizes[..n]
+    }
+}
