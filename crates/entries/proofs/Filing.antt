@@ -4,21 +4,17 @@ use mathlib.Core.List.{List, [], ◌∷◌, ◌++◌, append_assoc, append-nil, 
 use Prim.Native.Nat.{ℕ, ◌+◌, ◌≤◌, ◌<◌}
 use native.Mathlib.Numerals.{add-one}
 use native.Mathlib.Omega.{arith}
-use lib.ListN.{length, take, drop, set, length-drop, length-set, length-map}
+use lib.ListN.{length, take, set, length-append, length-set, length-map}
+use lib.Seq.{take_at, drop_at}
 use lib.Seq.{length-take-le, take-suc-set, take-add}
 use Rattle.lists.specs.Runs.{codes_in, total, flat}
 use Rattle.lists.proofs.Runs.{cut_again, total-lengths}
 use Rattle.grammar.specs.Files.{add}
-use Rattle.rows.specs.Scans.{part_of, KeptTo}
 use Rattle.entries.specs.Gathering.{Filed}
 
 flat_add : (ws : List (List ℕ)) (w : List ℕ) → flat (add ws w) ≡ flat ws ++ w
 flat_add [] w = append-nil w
 flat_add (v ∷ ws) w = rw (flat_add ws w, append_assoc)
-
-pub length_part : (run : List ℕ) (mark size : ℕ) → mark + size ≤ length run → length (part_of run mark size) ≡ size
-length_part run mark size h =
-    length-take-le size (drop mark run) (omega (arith, length-drop mark run))
 
 module _ {ws : List (List ℕ)} {run : List ℕ} {mark : ℕ} {ls : List ℕ} {count : ℕ} (f : Filed ws run mark ls count) where
   pub filed_count : length ws ≡ count
@@ -33,14 +29,24 @@ module _ {ws : List (List ℕ)} {run : List ℕ} {mark : ℕ} {ls : List ℕ} {c
   pub filed_words : codes_in (take mark run) (take count ls) ≡ ws
   filed_words = rw (f.run_is, f.lengths_are) (cut_again ws)
 
-  pub filed_add : {run' w : List ℕ} (size : ℕ) → KeptTo mark run run' → mark + size ≤ length run → w ≡ part_of run' mark size
-      → count < length ls → Filed (add ws w) run' (mark + size) (set ls count size) (count + 1)
-  filed_add {run'} {w} size k r e h =
-      let d : length w ≡ size = ap length e ∙ length_part run' mark size (omega (arith, k.as_long)) in
+  pub filed_length : {front : List ℕ} (back : List ℕ) → front ≡ take mark run → length back + mark ≡ length run
+      → length (front ++ back) ≡ length run
+  filed_length {front} back k l =
+      omega (arith, ap length k, length-take-le mark run f.in_run, length-append front back)
+
+  -- what is before the mark is kept, and the next word stands behind it
+  pub filed_add : {front w : List ℕ} (back : List ℕ) (size : ℕ) → front ≡ take mark run → length back + mark ≡ length run
+      → size ≤ length back → w ≡ take size back → count < length ls
+      → Filed (add ws w) (front ++ back) (mark + size) (set ls count size) (count + 1)
+  filed_add {front} {w} back size k l r e h =
+      let n : length front ≡ mark = ap length k ∙ length-take-le mark run f.in_run in
+      let d : length w ≡ size = ap length e ∙ length-take-le size back r in
       record {
-        run_is = take-add mark size run' ∙ (cc (k.front, f.run_is, e, flat_add ws w));
+        run_is =
+            take-add mark size (front ++ back)
+            ∙ (cc (take_at front back mark n, drop_at front back mark n, k, f.run_is, e, flat_add ws w));
         lengths_are = rw (add-one, take-suc-set ls count size h, f.lengths_are, map-append, d);
-        in_run = omega (arith, k.as_long);
+        in_run = omega (arith, length-append front back);
         in_lengths = omega (arith, length-set ls count size);
       }
 

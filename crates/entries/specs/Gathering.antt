@@ -1,42 +1,31 @@
 -- What the reader's steps give: a row with its fault, and after all rows the answer for the file, with the words gathered
 -- in two runs.
-use Rattle.std.specs.Prelude.{◌≡◌, Bool, true, false, List, [], ℕ, suc, ◌+◌, ◌≤◌, ◌<◌, length, take, drop, Result, Ok, Err, IfOk}
+use Rattle.std.specs.Prelude.{◌≡◌, List, ℕ, ◌≤◌, length, take, Result, Ok, Err, IfOk}
 use Rattle.lists.specs.Answers.{number_of, number_told}
 use Rattle.lists.specs.declared.numbers.Fault.{Fault}
 use Rattle.lists.specs.declared.numbers.Refusal.{Refusal}
 use Rattle.lists.specs.Runs.{flat, lengths}
 use Rattle.grammar.specs.Files.{Orders, orders, bad}
 use Rattle.grammar.specs.Rows.{Row, first_row}
-use Rattle.grammar.specs.Orders.{head_fault_lem, entry_fault_lem, name_in, code_in, row_fault, rows_from}
-use Rattle.rows.specs.Scans.{part_of, KeptTo}
-use Rattle.entries.specs.declared.checks.Checked.{Checked}
+use Rattle.grammar.specs.Orders.{row_fault}
+use Rattle.rows.specs.Scans.{RowFound}
+use Rattle.rows.specs.declared.scan.RowRead.{RowRead}
 use Rattle.entries.specs.declared.collect.Gathered.{Gathered}
 
--- the faults of two fields, in row 1 or after entries with these names
-abbrev pub fields_fault_lem : Bool → List (List ℕ) → List ℕ → List ℕ → ℕ
-fields_fault_lem true names = head_fault_lem
-fields_fault_lem false names = entry_fault_lem names
+-- the row x has two fields, at the beginnings of two buffers
+pub record TwoFound (here names bands : List ℕ) (x : Row) (r : RowRead) : Type 0 where
+  pub row : RowFound here names bands x r
+  pub two : r.fields ≡ 2
 
--- the faultless row x: where the next begins, and its two fields
-pub record EntryFound (file : List ℕ) (at : ℕ) (names : List ℕ) (nmark : ℕ) (bands : List ℕ) (bmark : ℕ) (x : Row) (r : Checked) : Type 0 where
-  pub rest : drop r.next file ≡ x.rest
-  pub within : r.next ≤ length file
-  pub onward : at < length file → at < r.next
-  pub name_fits : at + r.name ≤ r.next
-  pub code_fits : at + r.code ≤ r.next
-  pub name_is : name_in x ≡ part_of names nmark r.name
-  pub code_is : code_in x ≡ part_of bands bmark r.code
+-- the row that begins here, where it has two fields: its fault is theirs; else it is this, whatever theirs are
+abbrev pub ReadsTwo : List ℕ → List ℕ → List ℕ → Result RowRead Fault → Type 0
+ReadsTwo here names bands (Ok r) = TwoFound here names bands (first_row here) r
+ReadsTwo here names bands (Err f) = (of_two : List ℕ → List ℕ → ℕ) → number_of f ≡ row_fault of_two (first_row here)
 
 -- the row that begins here, or its fault, where a test finds that of the two fields
-pub record ChecksRow (file : List ℕ) (at : ℕ) (of_two : List ℕ → List ℕ → ℕ) (names names' : List ℕ) (nmark : ℕ) (bands bands' : List ℕ) (bmark : ℕ) (r : Result Checked Fault) : Type 0 where
-  pub names_kept : KeptTo nmark names names'
-  pub bands_kept : KeptTo bmark bands bands'
-  pub fault : number_told r ≡ row_fault of_two (first_row (drop at file))
-  pub found : IfOk r (λ c. EntryFound file at names' nmark bands' bmark (first_row (drop at file)) c)
-
--- the answer from the entries on that begin here, none before them
-unfoldable pub entries_from : List ℕ → ℕ → Orders
-entries_from file at = rows_from (suc (length file)) 2 [] [] (drop at file)
+pub record ChecksRow (here : List ℕ) (of_two : List ℕ → List ℕ → ℕ) (names bands : List ℕ) (r : Result RowRead Fault) : Type 0 where
+  pub fault : number_told r ≡ row_fault of_two (first_row here)
+  pub found : IfOk r (λ c. TwoFound here names bands (first_row here) c)
 
 -- the buffers that words are gathered in: no file has more bytes, and no list more entries
 pub record Roomy (bands ls names sizes : List ℕ) : Type 0 where

@@ -3,7 +3,9 @@
 
 mod limits; // of what is handed over
 mod numbers; // of refusals
+mod handed; // lists of words
 
+pub use handed::Run;
 pub use limits::{
     MOST_BANDS, MOST_CODES, MOST_FILE_BYTES, MOST_NAME_BYTES, MOST_SHEET_BYTES, MOST_SUPPLIED_BANDS,
 };

@@ -1,11 +1,75 @@
--- `gather` meets its contract: row 1 is read and checked, and the entries give the answer from there on.
+-- `gather` meets its contract: the heading and each row are a refusal, or one more entry is gathered.
+use mathlib.Core.Path.{◌≡◌, sym, ◌∙◌}
+use Prim.Native.Nat.{◌+◌}
 use native.Mathlib.Omega.{arith}
-use Rattle.entries.proofs.Mapped.{ok_before}
-use Rattle.entries.proofs.Gathering.{good_heading}
+use lib.ListN.{length, length-set}
+use Rattle.std.proofs.Common.{rules}
+use Rattle.std.proofs.lemmas.Result.{err_from_is_err_and}
+use Rattle.entries.specs.Gathering.{Roomy}
+use Rattle.words.proofs.Deciding.{is_eq, fails}
+use Rattle.lists.proofs.Runs.{to_end}
+use Rattle.entries.proofs.Mapped.{ok_before, err_before}
+use Rattle.entries.proofs.Filing.{filed_total, filed_length}
+use Rattle.entries.proofs.Gathering.{begins, bad_entry, small, goes_on}
 use Rattle.entries.proofs.collect.gather.Goals as goal
 
-pub returns : goal.returns
-returns c =
+pub loop-rest-init : goal.loop-rest-init
+loop-rest-init c =
     let p = c.requires in
-    let e = ok_before _ c.check_row.result c.map_err.ensures.cases c.in_ok-head.was in
-    rw (good_heading p.1 (λ z. omega arith) (rw e at c.check_row.ensures)) c.gather_entries.ensures
+    let h = c.check_heading in
+    let e = ok_before _ h.result c.map_err.ensures.cases c.in_ok-head.was in
+    let m : Roomy h.new.bands c.args.lengths.now h.new.names c.args.sizes.now = record {
+      code_run = h.auto.bands ∙ p.2.code_run;
+      code_lengths = p.2.code_lengths;
+      name_run = h.auto.names ∙ p.2.name_run;
+      name_lengths = p.2.name_lengths;
+    } in
+    (rw to_end (begins p.1 p.0 m (rw e at h.ensures)), m)
+
+pub invariant_of-before : goal.invariant_of-before
+invariant_of-before c =
+    let g = c.loop-rest.invariant.0 in
+    record { in_run = omega (arith, filed_total g.names_filed, c.split_at_mut-bytes.ensures.front_len) }
+
+pub returns-in_err-row : goal.returns-in_err-row
+returns-in_err-row c =
+    let p = err_from_is_err_and c.from_residual-in_err-row.result c.from_residual-in_err-row.ensures.1 in
+    let e = err_before _ c.check_entry.result c.map_err-in-loop-rest.ensures.cases c.in_err-row.was in
+    let q : c.in_err-row.field-0.0 ≡ record { fault = e.0; row = 2 + c.loop-rest.all.codes } = search rules in
+    let h = rw (e.1, c.split_at_mut-bytes.ensures.front) at c.check_entry.ensures in
+    let left = fails (is_eq (length c.loop-rest.rest.now) 0) (sym c.loop-rest-test.ensures) in
+    rw (p.1, p.2, q) (bad_entry c.loop-rest.invariant.0 left h)
+
+pub bounds-lengths-all : goal.bounds-lengths-all
+bounds-lengths-all c =
+    let e = ok_before _ c.check_entry.result c.map_err-in-loop-rest.ensures.cases c.in_ok-row.was in
+    let h = rw (e, c.split_at_mut-bytes.ensures.front) at c.check_entry.ensures in
+    let g = c.loop-rest.invariant.0 in
+    let left = fails (is_eq (length c.loop-rest.rest.now) 0) (sym c.loop-rest-test.ensures) in
+    omega (arith, small g left h (omega arith) (omega arith), g.lengths_room)
+
+pub bounds-sizes-all : goal.bounds-sizes-all
+bounds-sizes-all c =
+    let e = ok_before _ c.check_entry.result c.map_err-in-loop-rest.ensures.cases c.in_ok-row.was in
+    let h = rw (e, c.split_at_mut-bytes.ensures.front) at c.check_entry.ensures in
+    let g = c.loop-rest.invariant.0 in
+    let left = fails (is_eq (length c.loop-rest.rest.now) 0) (sym c.loop-rest-test.ensures) in
+    omega (arith, small g left h (omega arith) (omega arith), g.sizes_room)
+
+pub loop-rest-preserved : goal.loop-rest-preserved
+loop-rest-preserved c =
+    let e = ok_before _ c.check_entry.result c.map_err-in-loop-rest.ensures.cases c.in_ok-row.was in
+    let l = c.split_at_mut-bytes.ensures in
+    let k = c.split_at_mut-next_code.ensures in
+    let h = rw (e, l.front) at c.check_entry.ensures in
+    let g = c.loop-rest.invariant.0 in
+    let m = c.loop-rest.invariant.1 in
+    let left = fails (is_eq (length c.loop-rest.rest.now) 0) (sym c.loop-rest-test.ensures) in (
+      rw to_end (goes_on g left h (omega arith) (omega arith) l.front k.front),
+      record {
+        code_run = filed_length g.codes_filed _ k.front (omega arith) ∙ m.code_run;
+        code_lengths = simp length-set m.code_lengths;
+        name_run = filed_length g.names_filed _ l.front (omega arith) ∙ m.name_run;
+        name_lengths = simp length-set m.name_lengths;
+      },
+    )
