@@ -1,4 +1,6 @@
 // What the fields of a line stand for: bytes, and numbers.
+ghost use Rattle.std.specs.Prelude.{◌≤◌};
+
 use arrayvec::ArrayVec;
 use std::iter;
 
@@ -12,7 +14,7 @@ enum Next {
     // What stands behind a backslash.
     Escape,
     // The second digit of a byte.
-    LowDigit(u8),
+    LowDigit(usize),
 }
 
 // A bytes field in the reading: what is next, and how often the next byte stands.
@@ -22,13 +24,11 @@ struct Reading {
     times: usize,
 }
 
-// The value of a hexadecimal digit.
-fn hexadecimal(b: u8) -> u8 {
-    match b {
-        b'0'..=b'9' => b - b'0',
-        b'A'..=b'F' => b - b'A' + 10,
-        _ => 0,
-    }
+// The value of a digit; 0 where it is none.
+fn digit(b: u8, radix: u32) -> usize
+    requires { (2 ≤ radix) × (radix ≤ 36) }
+{
+    char::from(b).to_digit(radix).unwrap_or(0) as usize
 }
 
 impl Reading {
@@ -57,8 +57,8 @@ impl Reading {
             self.times = n;
             return self.wait(Next::Plain);
         }
-        let digit = usize::from(hexadecimal(b));
-        self.wait(Next::Count(n.saturating_mul(10).saturating_add(digit)))
+        let more = n.saturating_mul(10).saturating_add(digit(b, 10));
+        self.wait(Next::Count(more))
     }
 
     fn escape(&mut self, b: u8) -> Option<u8> {
@@ -66,7 +66,7 @@ impl Reading {
             b'r' => self.whole(b'\r'),
             b'n' => self.whole(b'\n'),
             b's' => self.whole(b' '),
-            _ => self.wait(Next::LowDigit(hexadecimal(b))),
+            _ => self.wait(Next::LowDigit(digit(b, 16))),
         }
     }
 
@@ -76,7 +76,7 @@ impl Reading {
             Next::Plain => self.plain(b),
             Next::Count(n) => self.count(n, b),
             Next::Escape => self.escape(b),
-            Next::LowDigit(high) => self.whole(high % 16 * 16 + hexadecimal(b) % 16),
+            Next::LowDigit(high) => self.whole((high % 16 * 16 + digit(b, 16) % 16) as u8),
         }
     }
 }
