@@ -27,8 +27,8 @@ use Rattle.greedy.specs.Rules.{AllStand}
 use Rattle.greedy.proofs.Keeping.{code_in_lem}
 use Rattle.parts.proofs.Cutting.{code_at_lem, total_part, fit_size, fit_small}
 use Rattle.places.specs.declared.Place as declared
-use Rattle.places.specs.declared.Way.{Way}
-use Rattle.places.specs.declared.Way.TheVariants.{Given, Turned, Either}
+use Rattle.finding.specs.declared.Way.{Way}
+use Rattle.finding.specs.declared.Way.TheVariants.{Given, Turned, Either}
 use Rattle.places.specs.Starts.{StartsWithin}
 use Rattle.checking.specs.Check.{none_missing, missing, all_held, lowest, missing_on}
 use Rattle.checking.specs.Answers.{PlaceRecord, records_from}
@@ -144,7 +144,7 @@ module _ {run ls row : List ℕ} {all : List declared.Place} {at i : ℕ} (f : F
   finding_all h = record { within = f.bound; room = f.room; are = f.are; rest = f.rest; stops = λ l. absurd (omega arith) }
 
 -- What the search for places tells: the codes whose records it has stand on the row, since no record is of no place.
-way_found : (w : Way) → found (way_at w) ≡ true
+pub way_found : (w : Way ℕ) → found (way_at w) ≡ true
 way_found (Given i) = refl
 way_found (Turned i) = refl
 way_found (Either i) = refl

@@ -9,15 +9,10 @@ mod records; // the record of a code
 
 use lists::MOST_CODES;
 pub use records::{count_from, find_nth};
-use records::{is_nowhere, place_of, record_of};
+use records::{place_of, record_of};
 
 // A way of a code, with the start at which it stands: either for a code equal to its turned form.
-#[derive(Clone, Copy, PartialEq, Eq)]
-pub enum Way {
-    Given(u32),
-    Turned(u32),
-    Either(u32),
-}
+pub type Way = finding::Way<u32>;
 
 // A place record: the code's number, and its way with the start.
 #[derive(Clone, Copy, PartialEq, Eq)]
@@ -26,7 +21,8 @@ pub struct Place {
     pub way: Way,
 }
 
-// The records of the codes that have a place, so many, at the front of a row.
+// The records of the codes that have a place, so many, at the front of a row: no list is longer than the row, and no memory is
+// asked for.
 #[derive(Drop)]
 pub struct Sought {
     pub count: usize,
@@ -50,22 +46,16 @@ pub fn find_places(bands: &[u8], lengths: &[u16], ribbon: &[u8]) -> Sought
 {
     let mut records = blank();
     let mut at = 0;
-    let mut i = 0;
-    while i < lengths.len() {
-        let size = lengths[i] as usize;
-        let place = place_of(bands, at, size, ribbon);
-        if is_nowhere(place) {
-            return Sought {
-                count: i,
-                records: records,
-            };
-        }
-        records[i] = record_of(place, i);
+    for (i, length) in lengths.iter().enumerate() {
+        let size = usize::from(*length);
+        let Some(way) = place_of(bands, at, size, ribbon) else {
+            return Sought { count: i, records };
+        };
+        records[i] = record_of(way, i);
         at += size;
-        i += 1;
     }
     Sought {
-        count: i,
-        records: records,
+        count: lengths.len(),
+        records,
     }
 }

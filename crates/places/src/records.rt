@@ -1,5 +1,5 @@
 // The record of a code that has a place.
-ghost use Rattle.std.specs.Prelude.{◌≡◌, not, ◌+◌, ◌≤◌, ◌<◌, length, take, drop};
+ghost use Rattle.std.specs.Prelude.{◌≡◌, ◌+◌, ◌≤◌, ◌<◌, length, take, drop};
 ghost use Rattle.words.specs.Turn.{turned};
 ghost use Rattle.words.specs.Place as p;
 ghost use Rattle.words.specs.Count.{count_of};
@@ -9,12 +9,12 @@ ghost use Rattle.lists.specs.Runs.{codes_in};
 ghost use Rattle.greedy.specs.Dropping.{code_at};
 ghost use Rattle.places.specs.Calls.{way_at, record_of_lem, place_for, HasPlace};
 
-use crate::{Place, Way};
-use finding::Found;
+use crate::Place;
+use finding::Way;
 use fitness::sum_of;
 
 // The place of the code of so many bands that starts at a number in the lent run.
-pub fn place_of(bands: &[u8], at: usize, size: usize, ribbon: &[u8]) -> Found
+pub fn place_of(bands: &[u8], at: usize, size: usize, ribbon: &[u8]) -> Option<Way<usize>>
     requires { (at + size ≤ length bands.now) × (at + size < 65536) × (1 ≤ size) × (size ≤ 64) }
     ensures { place_in result ≡ p.place_of turned 0 (take size (drop at bands.now)) ribbon.now }
 {
@@ -29,39 +29,26 @@ pub fn count_from(bands: &[u8], at: usize, size: usize, ribbon: &[u8], start: us
     counting::count_places(&bands[at..at + size], &ribbon[start..])
 }
 
-// Whether there is no place.
-pub fn is_nowhere(place: Found) -> bool
-    ensures { result ≡ not (p.found (place_in place)) }
+// The way of a place, with its start in fewer bits.
+fn narrow(way: Way<usize>) -> Way<u32>
+    requires { StartsWithin 16384 (way_at way) }
+    ensures { result ≡ way }
 {
-    match place {
-        Found::Given(_) => false,
-        Found::Turned(_) => false,
-        Found::Either(_) => false,
-        Found::Nowhere => true,
+    match way {
+        Way::Given(start) => Way::Given(start as u32),
+        Way::Turned(start) => Way::Turned(start as u32),
+        Way::Either(start) => Way::Either(start as u32),
     }
 }
 
-// The way of a place, with its start. The last case is never reached.
-fn way_of(place: Found) -> Way
-    requires { StartsWithin 16384 (place_in place) }
-    ensures { way_at result ≡ place_in place }
-{
-    match place {
-        Found::Given(start) => Way::Given(start as u32),
-        Found::Turned(start) => Way::Turned(start as u32),
-        Found::Either(start) => Way::Either(start as u32),
-        Found::Nowhere => Way::Given(0),
-    }
-}
-
-// The record of a code of a number, with its place.
-pub fn record_of(place: Found, code: usize) -> Place
-    requires { StartsWithin 16384 (place_in place) × (code < 128) }
-    ensures { record_of_lem result ≡ record { code = code; place = place_in place } }
+// The record of a code of a number, with its way and start.
+pub fn record_of(way: Way<usize>, code: usize) -> Place
+    requires { StartsWithin 16384 (way_at way) × (code < 128) }
+    ensures { record_of_lem result ≡ record { code = code; place = way_at way } }
 {
     Place {
         code: code as u32,
-        way: way_of(place),
+        way: narrow(way),
     }
 }
 
@@ -72,6 +59,6 @@ pub fn find_nth(bands: &[u8], lengths: &[u16], ribbon: &[u8], i: usize) -> Place
     ensures { result ≡ place_for i (code_at (codes_in bands.now lengths.now) i) ribbon.now }
 {
     let at = sum_of(&lengths[0..i]);
-    let size = lengths[i] as usize;
-    record_of(place_of(bands, at, size, ribbon), i)
+    let size = usize::from(lengths[i]);
+    record_of(place_of(bands, at, size, ribbon).unwrap(), i)
 }

@@ -4,7 +4,7 @@ use native.Mathlib.Omega.{arith}
 use mathlib.Core.Path.{sym}
 use Prim.Native.Nat.{◌<◌}
 use lib.ListN.{length}
-use Rattle.words.specs.Ways.{way_of}
+use Rattle.matching.specs.Forms.{bands_of}
 use Rattle.words.proofs.Ways.{way_size}
 use Rattle.words.proofs.FallBacks.{falls_fewer, filled_for, filled_more}
 use Rattle.matching.proofs.falling.fill_to.Goals as goal
@@ -21,6 +21,6 @@ go_on-requires c =
 pub returns : goal.returns
 returns c =
     let x = c.args in
-    let l : x.n < length (way_of x.turned x.b.now) = omega (arith, way_size x.turned x.b.now) in
+    let l : x.n < length (bands_of x.b) = omega (arith, way_size x.b.turned x.b.word.now) in
     let h = c.requires.2 in
-    filled_more h (omega (arith, h.known)) c.requires.1 (l, sym c.band_at.ensures) c.go_on.ensures
+    filled_more h (omega (arith, h.known)) c.requires.1 (l, sym c.band.ensures) c.go_on.ensures

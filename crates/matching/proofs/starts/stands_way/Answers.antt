@@ -1,5 +1,5 @@
--- `stands_way` tries the starts one by one. The invariant: the way begins at none of those passed.
-use mathlib.Core.Path.{sym, ◌∙◌}
+-- `stands_way` tries the starts one by one.
+use Rattle.std.proofs.Common.{sym, ◌∙◌, arith}
 use Rattle.words.proofs.Ways.{way_size}
 use Rattle.matching.proofs.Seeking.{sought_none, sought_hit, sought_miss, sought_all}
 use Rattle.matching.proofs.starts.stands_way.Goals as goal
@@ -18,4 +18,4 @@ loop-i-preserved c =
 pub returns : goal.returns
 returns c =
     let x = c.args in
-    sought_all _ _ _ c.loop-i.invariant _ (way_size x.turned x.c.now) c.loop-i-test.false
+    sought_all _ _ _ c.loop-i.invariant _ (way_size x.form.turned x.form.word.now ∙ sym c.len.ensures) (omega arith)

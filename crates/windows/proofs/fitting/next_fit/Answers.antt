@@ -1,35 +1,30 @@
--- `next_fit`: the window is that of its start, and no start passed over fits.
-use native.Mathlib.Omega.{arith}
-use Rattle.words.proofs.Deciding.{fails}
+-- `next_fit`: a start that does not fit is passed over, and the window gains a band and loses one.
+use Rattle.std.proofs.Common.{◌≡◌, ◌+◌, true, false, refl, arith}
 use Rattle.windows.proofs.Adding.{adds_small, first_in, adds_next, skipped_none, skipped_more}
 use Rattle.windows.proofs.fitting.next_fit.Goals as goal
 
-pub loop-w-init : goal.loop-w-init
-loop-w-init c = (c.requires.2, skipped_none)
-
-pub overflow_add-w : goal.overflow_add-w
-overflow_add-w c = omega (arith, c.loop-w.invariant.0.within)
+pub loop-start-init : goal.loop-start-init
+loop-start-init c = (refl, c.requires.2, skipped_none)
 
 pub returns-then-fits : goal.returns-then-fits
-returns-then-fits c = c.loop-w.invariant
+returns-then-fits c = let h = c.loop-start.invariant in rw h.0 (h.1, h.2)
 
 pub overflow_sub-w : goal.overflow_sub-w
-overflow_sub-w c =
-    let z = c.requires.0 in
-    omega (arith, c.wide.ensures.0, first_in c.loop-w.invariant.0 z c.loop-w-test.true)
+overflow_sub-w c = omega (arith, first_in c.loop-start.invariant.1 c.requires.0 (omega arith))
 
-pub overflow_add-w-in-loop-w-2 : goal.overflow_add-w-in-loop-w-2
-overflow_add-w-in-loop-w-2 c =
-    let small = adds_small c.loop-w.invariant.0 (λ i. omega (arith, c.type_inv.s i)) in
-    omega (arith, small, c.requires.1, c.wide-in-loop-w.ensures.1)
+pub overflow_add-w-in-loop-start : goal.overflow_add-w-in-loop-start
+overflow_add-w-in-loop-start c =
+    let small = adds_small c.loop-start.invariant.1 (λ i. omega (arith, c.type_inv.s i)) in
+    omega (arith, small, c.type_inv.s (c.loop-start.start + c.args.n))
 
-pub loop-w-preserved : goal.loop-w-preserved
-loop-w-preserved c =
-    let h = c.loop-w.invariant in
-    let n = adds_next h.0 c.requires.0 c.loop-w-test.true in (
-      rw (c.wide.ensures.0, c.wide-in-loop-w.ensures.0) n,
-      skipped_more h.1 h.0 (fails c.fits.ensures c.if-fits.false),
+pub loop-start-preserved : goal.loop-start-preserved
+loop-start-preserved c =
+    let h = c.loop-start.invariant in
+    let n = adds_next h.1 c.requires.0 (omega arith) in (
+      refl,
+      rw (c.from.ensures, c.from-in-loop-start.ensures) n,
+      skipped_more h.2 h.1 (λ p. let no : false ≡ true = c.if-fits.ensures.1 (rw h.0 p) in cc),
     )
 
 pub returns : goal.returns
-returns c = c.loop-w.invariant
+returns c = let h = c.loop-start.invariant in rw h.0 (h.1, h.2)
