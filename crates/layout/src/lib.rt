@@ -1,13 +1,12 @@
 // From a list of codes to its ribbon: contained codes dropped, faces put in order, the ribbon of that order written.
 #![tactic(auto)]
 
-ghost use Rattle.parts.specs.Parts.{InRun, parts_of};
 ghost use Rattle.spelling.specs.Ribbons.{InOrder};
 ghost use Rattle.layout.specs.Calls.{Gives, order_outcome, kept_outcome, LaysRibbon};
 
 use faces::order_faces;
-use lists::{Fault, MOST_CODES, Refusal};
-use parts::{cut, keep};
+use lists::{Fault, Refusal, Run};
+use parts::Parts;
 use spelling::{measure, write_bands};
 
 // A ribbon's length, and what it saves.
@@ -18,43 +17,29 @@ pub struct Laid {
 }
 
 // The ribbon of an order of faces, written where it fits.
-fn lay_order(
-    bands: &[u8],
-    starts: &[usize],
-    sizes: &[usize],
-    n: usize,
-    order: &[usize],
-    ribbon: &mut [u8],
-) -> Result<Laid, Refusal>
-    requires { InOrder bands.now starts.now sizes.now n order.now }
-    ensures { Gives (order_outcome (parts_of bands.now starts.now sizes.now n) order.now ribbon.old) ribbon.new result }
+fn lay_order(parts: &Parts<'_>, order: &[usize], ribbon: &mut [u8]) -> Result<Laid, Refusal>
+    requires { InOrder parts.now order.now }
+    ensures { Gives (order_outcome parts.now order.now ribbon.old) ribbon.new result }
 {
     let mut skips = [0usize; 256];
-    let sums = measure(bands, starts, sizes, n, order, &mut skips);
+    let sums = measure(parts, order, &mut skips);
     if ribbon.len() < sums.bands {
         return Err(Fault::ShortBuffer.into());
     }
-    write_bands(bands, starts, sizes, n, order, &skips, ribbon);
+    write_bands(parts, order, &skips, ribbon);
     Ok(Laid {
         bands: sums.bands as u32,
         saved: sums.saved as u32,
     })
 }
 
-// The ribbon of n kept codes.
-fn lay_kept(
-    bands: &[u8],
-    starts: &[usize],
-    sizes: &[usize],
-    n: usize,
-    ribbon: &mut [u8],
-) -> Result<Laid, Refusal>
-    requires { InRun bands.now starts.now sizes.now n }
-    ensures { Gives (kept_outcome (parts_of bands.now starts.now sizes.now n) ribbon.old) ribbon.new result }
+// The ribbon of kept codes.
+fn lay_kept(parts: &Parts<'_>, ribbon: &mut [u8]) -> Result<Laid, Refusal>
+    ensures { Gives (kept_outcome parts.now ribbon.old) ribbon.new result }
 {
     let mut order = [0usize; 256];
-    let count = order_faces(bands, starts, sizes, n, &mut order);
-    lay_order(bands, starts, sizes, n, &order[..count], ribbon)
+    let count = order_faces(parts, &mut order);
+    lay_order(parts, &order[..count], ribbon)
 }
 
 // Lays out a list of codes, one run of bands and a length for each, into a lent ribbon. It answers with the ribbon's length
@@ -65,18 +50,9 @@ pub fn lay_ribbon(bands: &[u8], lengths: &[u16], ribbon: &mut [u8]) -> Result<La
     if !fitness::list_ok(bands, lengths) {
         return Err(Fault::FalseList.into());
     }
-    let mut starts = [0usize; MOST_CODES];
-    let mut sizes = [0usize; MOST_CODES];
-    cut(lengths, &mut starts, &mut sizes);
-    let mut kept_starts = [0usize; MOST_CODES];
-    let mut kept_sizes = [0usize; MOST_CODES];
-    let n = keep(
-        bands,
-        &starts,
-        &sizes,
-        lengths.len(),
-        &mut kept_starts,
-        &mut kept_sizes,
-    );
-    lay_kept(bands, &kept_starts, &kept_sizes, n, ribbon)
+    let codes = Parts::cut(Run {
+        bytes: bands,
+        sizes: lengths,
+    });
+    lay_kept(&codes.kept(), ribbon)
 }

@@ -1,10 +1,7 @@
--- `lowest_among` passes one place after another. The invariant: `best` is the lowest of those passed.
-use Prim.Native.Nat.{◌-◌, ◌≤◌}
-use Rattle.faces.specs.Passing.{MayFollow, LowestAmong}
+-- `lowest_among`. The invariant: `best` is the lowest of those passed.
+use Rattle.joining.specs.Joins.{row_of}
+use Rattle.faces.specs.Passing.{Lowest, Among, MayFollow}
 use Rattle.faces.proofs.following.lowest_among.Given as goal
 
-abbrev pub invariant-loop-i : goal.invariant-loop-i
-invariant-loop-i l = (l.low ≤ l.i) × (l.i ≤ l.high) × LowestAmong (MayFollow l.after l.head l.other) l.sorted l.m l.low l.i l.best
-
-abbrev pub decreases-loop-i : goal.decreases-loop-i
-decreases-loop-i l = l.high - l.i
+abbrev pub invariant-loop-b : goal.invariant-loop-b
+invariant-loop-b l = Lowest (Among l.faces l.b-index (MayFollow (row_of l.after) l.head l.other)) l.best

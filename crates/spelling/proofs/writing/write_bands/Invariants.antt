@@ -1,13 +1,12 @@
 -- `writing::write_bands`. The loop's invariant: the ribbon of the first i faces is written, and the next goes behind it.
-use mathlib.Core.Path.{◌≡◌}
-use Prim.Native.Nat.{◌-◌, ◌≤◌}
-use lib.ListN.{length, take}
+use Rattle.std.proofs.Common.{◌≡◌, length, take}
+use Rattle.words.specs.Turn.{turned}
 use Rattle.lists.specs.Runs.{over}
-use Rattle.spelling.specs.Ribbons.{part_ribbon}
+use Rattle.greedy.specs.Reading.{read_piece}
 use Rattle.spelling.proofs.writing.write_bands.Given as goal
 
 abbrev pub invariant-loop-i : goal.invariant-loop-i
-invariant-loop-i l = (l.i ≤ length l.order) × (length l.ribbon ≡ length l.initial.ribbon) × (l.at ≡ length (part_ribbon l.bands l.starts l.sizes l.n (take l.i l.order))) × (l.ribbon ≡ over (part_ribbon l.bands l.starts l.sizes l.n (take l.i l.order)) l.initial.ribbon)
-
-abbrev pub decreases-loop-i : goal.decreases-loop-i
-decreases-loop-i l = length l.order - l.i
+invariant-loop-i l = record {
+  behind : l.at ≡ length (read_piece turned l.parts (take l.i l.order));
+  written : l.ribbon ≡ over (read_piece turned l.parts (take l.i l.order)) l.initial.ribbon;
+}
