@@ -1,6 +1,5 @@
 // The generator's draws.
-
-ghost use Rattle.std.specs.Prelude.{◌<◌, ◌≤◌};
+ghost use Rattle.std.specs.Prelude.{◌≡◌, ◌*◌, ◌%◌, ◌<◌, ◌≤◌};
 
 // The modulus and the factor of the rule by which a state follows another.
 const MODULUS: usize = 2147483647;
@@ -10,16 +9,21 @@ const FACTOR: usize = 48271;
 // A run of draws: each is the state that follows the last.
 #[derive(Clone, Copy)]
 pub struct Draws {
-    state: usize,
+    pub state: usize,
 }
 
 impl Draws {
-    pub fn from_seed(seed: usize) -> Self {
+    pub fn from_seed(seed: usize) -> Self
+        ensures { result.state ≡ seed }
+    {
         Draws { state: seed }
     }
 
     // The next draw.
-    pub fn next(&mut self) -> usize {
+    pub fn next(&mut self) -> usize
+        ensures state { self.new.state ≡ self.old.state % 2147483647 * 48271 % 2147483647 }
+        ensures value { result ≡ self.new.state }
+    {
         self.state = self.state % MODULUS * FACTOR % MODULUS;
         self.state
     }

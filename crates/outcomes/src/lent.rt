@@ -1,5 +1,5 @@
 // Buffers: their lines, and what those that are lent hold before a call and what is told of them after it.
-ghost use Rattle.std.specs.Prelude.{ℕ};
+ghost use Rattle.std.specs.Prelude.{◌≡◌, ℕ, length, min};
 
 use crate::items::{Item, Listed};
 use std::fmt;
@@ -12,7 +12,9 @@ pub const MOST_BYTES: usize = 17408;
 pub const MOST_NUMBERS: usize = 160;
 
 // The first n items of a buffer, ready for a call; all of them where there are fewer.
-pub fn lend<T: Item>(buffer: &mut [T], n: usize) -> &mut [T] {
+pub fn lend<T: Item>(buffer: &mut [T], n: usize) -> &mut [T]
+    ensures { length result.now ≡ min n (length buffer.old) }
+{
     for (i, item) in buffer.iter_mut().enumerate() {
         *item = T::mark(i);
     }
