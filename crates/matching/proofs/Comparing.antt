@@ -9,11 +9,11 @@ use native.Mathlib.Numerals.{add-one}
 use native.Mathlib.Omega.{arith}
 use borrow.Author.Tests.{eq-eqb, ne_eqb}
 use lib.ListN.{length, take, drop, get_or, length-append, drop_of_length-le}
-use lib.Seq.{drop-cons, get_or-take, length-take-le, take_all}
+use lib.Seq.{drop-cons, get_or-take, length-take-le}
 use Rattle.words.specs.Tests.{same}
 use Rattle.words.specs.Overlap.{agrees}
 use Rattle.words.specs.Stand.{begins}
-use Rattle.words.proofs.Deciding.{refuses, is_same}
+use Rattle.words.proofs.Deciding.{refuses}
 use Rattle.words.proofs.Standing.{is_beginning}
 
 same_more : (x y : List ℕ) (i j : ℕ) → i < length x → j < length y → get_or x i 0 ≡ get_or y j 0
@@ -71,9 +71,6 @@ module _ (a b : List ℕ) (k : ℕ) (e : k ≡ length a) where
   all_of : agrees a b k ≡ same a (take k b)
   all_of = let m : length a - k ≡ 0 = omega arith in rw m
 
-  pub agrees_same : k ≡ length b → agrees a b k ≡ same a b
-  agrees_same l = all_of ∙ rw (take_all k b (omega arith))
-
   pub agrees_begins : k ≤ length b → agrees a b k ≡ begins a b
   agrees_begins l = all_of ∙ rw e (go a b (rw e at l))
     where
@@ -81,9 +78,6 @@ module _ (a b : List ℕ) (k : ℕ) (e : k ≡ length a) where
       go [] y l = refl
       go (c ∷ x) [] l = absurd (omega arith)
       go (c ∷ x) (d ∷ y) l = rw (go x y (omega arith))
-
-pub other_length : (a b : List ℕ) → (length a ≡ length b → ⊥) → same a b ≡ false
-other_length a b h = refuses (is_same a b) (λ e. h (ap length e))
 
 pub begins_longer : (a b : List ℕ) → length b < length a → begins a b ≡ false
 begins_longer a b l =

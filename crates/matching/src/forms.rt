@@ -1,10 +1,9 @@
 // A word read as given or turned, its bands, and two of them compared band by band.
 ghost use Rattle.std.specs.Prelude.{◌≡◌, true, false, ◌≤◌, ◌<◌, length, get_or};
 ghost use Rattle.words.specs.Overlap.{agrees};
-ghost use Rattle.words.specs.Tests as t;
 ghost use Rattle.matching.specs.Forms.{bands_of};
 
-// A word read as given or turned. It is Copy and borrows, so it has no model of its own: bands_of says what it reads.
+// A word as it is read. What is Copy and borrows has no model of its own, so contracts say what is read by `bands_of`.
 #[derive(Clone, Copy)]
 pub struct Form<'a> {
     pub word: &'a [u8],
@@ -58,11 +57,4 @@ impl<'a> Form<'a> {
         }
         true
     }
-}
-
-// a and b are the same word.
-pub fn same(a: &[u8], b: &[u8]) -> bool
-    ensures { result ≡ t.same a.now b.now }
-{
-    a == b
 }

@@ -9,7 +9,7 @@ mod starts;
 mod writing;
 
 pub use endings::overlap;
-pub use forms::{Form, same};
+pub use forms::Form;
 pub use patterns::Pattern;
 pub use starts::{begins_way, stands};
 pub use writing::{put_way, put_word};
