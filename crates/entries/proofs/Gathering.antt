@@ -43,11 +43,6 @@ module _ (f k : ℕ) (ns cs : List (List ℕ)) (s : List ℕ) where
   rows_on h e = cc (ne_eqb (length s) 0 h, eq-eqb (row_fault (entry_fault_lem ns) (first_row s)) 0 e)
 
 module _ (s : List ℕ) (few : length s ≤ 16384) (some : length s ≢ 0) where
-  head_bad : row_fault head_fault_lem (first_row s) ≢ 0 → read_orders_lem s ≡ bad (row_fault head_fault_lem (first_row s)) 1
-  head_bad e =
-      cc
-      (le-ltb 16384 (length s) few, ne_eqb (length s) 0 some, ne_eqb (row_fault head_fault_lem (first_row s)) 0 e)
-
   head_good : row_fault head_fault_lem (first_row s) ≡ 0
       → read_orders_lem s ≡ rows_from (suc (length s)) 2 [] [] (first_row s).rest
   head_good e =
@@ -91,11 +86,6 @@ module _ {file names bands : List ℕ} (few : length file ≤ 16384) (some : 0 <
         lengths_room = omega arith;
         sizes_room = omega arith;
       }
-
-  pub bad_heading : {f : Fault} → ChecksRow file head_fault_lem names bands (Err f)
-      → read_orders_lem file ≡ bad (number_of f) 1
-  bad_heading {f} h =
-      rw h.fault (head_bad file few (λ e. omega arith) (λ z. absurd (omega (arith, h.fault ∙ z, some_number f))))
 
 -- It goes on past an entry, or ends at a faulty row.
 module _ {x : Orders} {rest bands ls names sizes : List ℕ} {count bmark nmark : ℕ}
