@@ -1,6 +1,6 @@
 -- From row to row the answer for the file stays what it is: what the loop over entries keeps, how it begins, goes on and
 -- ends.
-use mathlib.Core.Path.{◌≡◌, refl, sym, ap, ◌∙◌}
+use mathlib.Core.Path.{◌≡◌, sym, ap, ◌∙◌}
 use mathlib.Core.Logic.{◌≢◌}
 use mathlib.Core.Bool.{Bool}
 use mathlib.Core.List.{List, [], ◌++◌}
@@ -18,14 +18,14 @@ use Rattle.grammar.specs.Rows.{first_row}
 use Rattle.grammar.specs.Orders.{head_fault_lem, entry_fault_lem, name_in, code_in, row_fault, rows_from, read_orders_lem}
 use Rattle.rows.specs.Scans.{RowFound}
 use Rattle.rows.specs.declared.scan.RowRead.{RowRead}
-use Rattle.entries.specs.Gathering.{ChecksRow, Roomy, Filed, Gathers}
+use Rattle.entries.specs.Gathering.{ChecksRow, Roomy}
 use Rattle.std.specs.Prelude.{Result, Ok, Err}
 use Rattle.lists.specs.Answers.{number_of, number_told}
 use Rattle.lists.specs.declared.numbers.Fault.{Fault}
 use Rattle.lists.proofs.Table.{some_number}
 use Rattle.grammar.proofs.Faults.{of_entry, sound_row}
 use Rattle.grammar.proofs.Entries.{name_kept, code_kept, room}
-use Rattle.entries.proofs.Filing.{filed_none, filed_count, filed_words, filed_length, filed_add}
+use Rattle.entries.proofs.Filing.{Filing, filed_none, filed_count, filed_words, filed_length, filed_add}
 
 -- The definition, step by step: at the end, at a faulty row, and past an entry.
 module _ (f k : ℕ) (ns cs : List (List ℕ)) (s : List ℕ) where
@@ -57,8 +57,8 @@ pub record Going (x : Orders) (rest bands ls names sizes : List ℕ) (count bmar
   pub fuel : ℕ
   pub goes : rows_from (suc fuel) (2 + count) ns cs rest ≡ x
   pub enough : length rest ≤ fuel
-  pub names_filed : Filed ns names nmark sizes count
-  pub codes_filed : Filed cs bands bmark ls count
+  pub names_filed : Filing ns names nmark sizes count
+  pub codes_filed : Filing cs bands bmark ls count
   pub few : count ≤ 128
   pub name_room : nmark + length rest ≤ length names
   pub code_room : bmark + length rest ≤ length bands
@@ -177,14 +177,6 @@ module _ {x : Orders} {rest bands ls names sizes : List ℕ} {count bmark nmark 
     pub no_entries : count ≡ 0 → x ≡ bad empty_list_number 0
     no_entries e = at_end ∙ ap by_count (eq-eqb (length g.cs) 0 (omega (arith, filed_count g.codes_filed)))
 
-    all_entries : count ≢ 0 → x ≡ orders 0 0 g.ns g.cs
+    pub all_entries : count ≢ 0 → x ≡ orders 0 0 g.ns g.cs
     all_entries e =
         at_end ∙ ap by_count (ne_eqb (length g.cs) 0 (λ q. e (omega (arith, filed_count g.codes_filed))))
-
-    pub gathered : count ≢ 0
-        → Gathers x bands ls names sizes (Ok (record { codes = count; bands = bmark; names = nmark }))
-    gathered e = rw (all_entries e) (record {
-      accepted = refl;
-      codes_filed = g.codes_filed;
-      names_filed = g.names_filed;
-    })

@@ -1,9 +1,10 @@
 -- What the reader's steps give: a row with its fault, and after all rows the answer for the file, with the words gathered
 -- in two runs.
-use Rattle.std.specs.Prelude.{◌≡◌, List, ℕ, ◌≤◌, length, take, Result, Ok, Err, IfOk}
+use Rattle.std.specs.Prelude.{◌≡◌, List, ℕ, ◌≤◌, length, Result, Ok, Err, IfOk}
 use Rattle.lists.specs.Answers.{number_of, number_told}
 use Rattle.lists.specs.declared.numbers.Fault.{Fault}
 use Rattle.lists.specs.declared.numbers.Refusal.{Refusal}
+use Rattle.lists.specs.declared.handed.Run.{Run}
 use Rattle.lists.specs.Runs.{flat, lengths}
 use Rattle.grammar.specs.Files.{Orders, orders, bad}
 use Rattle.grammar.specs.Rows.{Row, first_row}
@@ -34,20 +35,20 @@ pub record Roomy (bands ls names sizes : List ℕ) : Type 0 where
   pub name_run : length names ≡ 16384
   pub name_lengths : length sizes ≡ 128
 
--- words in a run up to a mark, with as many lengths
-pub record Filed (words : List (List ℕ)) (run : List ℕ) (mark : ℕ) (ls : List ℕ) (count : ℕ) : Type 0 where
-  pub run_is : take mark run ≡ flat words
-  pub lengths_are : take count ls ≡ lengths words
-  pub in_run : mark ≤ length run
-  pub in_lengths : count ≤ length ls
+-- words in a run, with as many lengths
+pub record Filed (words : List (List ℕ)) (run : Run) : Type 0 where
+  pub bytes : run.bytes.now ≡ flat words
+  pub sizes : run.sizes.now ≡ lengths words
+  pub most_bytes : length run.bytes.now ≤ 16384
+  pub most_words : length run.sizes.now ≤ 128
 
--- the answer for a file, with its codes and its names in the runs
-pub record Gathering (x : Orders) (bands ls names sizes : List ℕ) (g : Gathered) : Type 0 where
+-- the answer for a file, with its codes and its names
+pub record Gathering (x : Orders) (g : Gathered) : Type 0 where
   pub accepted : x ≡ orders 0 0 x.names x.codes
-  pub codes_filed : Filed x.codes bands g.bands ls g.codes
-  pub names_filed : Filed x.names names g.names sizes g.codes
+  pub codes_filed : Filed x.codes g.codes
+  pub names_filed : Filed x.names g.names
 
 -- or refused
-abbrev pub Gathers : Orders → List ℕ → List ℕ → List ℕ → List ℕ → Result Gathered Refusal → Type 0
-Gathers x bands ls names sizes (Ok g) = Gathering x bands ls names sizes g
-Gathers x bands ls names sizes (Err r) = x ≡ bad (number_of r.fault) r.row
+abbrev pub Gathers : Orders → Result Gathered Refusal → Type 0
+Gathers x (Ok g) = Gathering x g
+Gathers x (Err r) = x ≡ bad (number_of r.fault) r.row

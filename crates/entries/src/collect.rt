@@ -6,53 +6,50 @@ ghost use Rattle.entries.specs.Gathering.{Roomy, Gathers};
 use crate::checks::{check_entry, check_heading};
 use lists::{Fault, Refusal, Run};
 
-// How many codes were gathered, and how many bands and bytes of names in them.
+// What an order list holds: its codes, and a name for each.
 #[derive(Clone, Copy)]
-pub struct Gathered {
-    pub codes: usize,
-    pub bands: usize,
-    pub names: usize,
+pub struct Gathered<'a> {
+    pub codes: Run<'a>,
+    pub names: Run<'a>,
 }
 
-// The heading, then the entries: each faultless entry is gathered behind those before it.
-pub fn gather(
+// The heading, then the entries: each faultless entry is gathered in the buffers behind those before it.
+pub fn gather<'a>(
     file: &[u8],
-    bands: &mut [u8],
-    lengths: &mut [u16],
-    names: &mut [u8],
-    sizes: &mut [u16],
-) -> Result<Gathered, Refusal>
+    bands: &'a mut [u8],
+    lengths: &'a mut [u16],
+    names: &'a mut [u8],
+    sizes: &'a mut [u16],
+) -> Result<Gathered<'a>, Refusal>
     requires { (0 < length file.now) × (length file.now ≤ 16384) × Roomy bands.old lengths.old names.old sizes.old }
-    ensures { Gathers (read_orders_lem file.now) bands.new lengths.new names.new sizes.new result }
+    ensures { Gathers (read_orders_lem file.now) result }
 {
     let head = check_heading(file, names, bands).map_err(|fault| Refusal { fault, row: 1 })?;
     let mut rest = &file[head.size..];
-    let mut all = Gathered {
-        codes: 0,
-        bands: 0,
-        names: 0,
-    };
+    let mut codes: usize = 0;
+    let mut code_end: usize = 0;
+    let mut name_end: usize = 0;
     while !rest.is_empty() {
-        let (bytes, next_name) = names.split_at_mut(all.names);
-        let (_, next_code) = bands.split_at_mut(all.bands);
-        let before = Run {
-            bytes,
-            sizes: &sizes[..all.codes],
-        };
-        let line = (2 + all.codes) as u32;
+        let (bytes, next_name) = names.split_at_mut(name_end);
+        let (_, next_code) = bands.split_at_mut(code_end);
+        let before = Run::new(bytes, &sizes[..codes]);
+        let line = (2 + codes) as u32;
         let row = check_entry(rest, before, next_name, next_code).map_err(|fault| Refusal {
             fault,
             row: line,
         })?;
-        lengths[all.codes] = row.code as u16;
-        sizes[all.codes] = row.name as u16;
-        all.bands += row.code;
-        all.names += row.name;
-        all.codes += 1;
+        lengths[codes] = row.code as u16;
+        sizes[codes] = row.name as u16;
+        code_end += row.code;
+        name_end += row.name;
+        codes += 1;
         rest = &rest[row.size..];
     }
-    if all.codes == 0 {
+    if codes == 0 {
         return Err(Fault::EmptyList.into());
     }
-    Ok(all)
+    Ok(Gathered {
+        codes: Run::new(&bands[..code_end], &lengths[..codes]),
+        names: Run::new(&names[..name_end], &sizes[..codes]),
+    })
 }

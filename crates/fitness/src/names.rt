@@ -42,9 +42,6 @@ pub fn names_ok(codes: usize, names: &[u8], sizes: &[u16]) -> bool
     if sizes.len() != codes || sum_of(sizes) != names.len() {
         return false;
     }
-    let run = Run {
-        bytes: names,
-        sizes,
-    };
+    let run = Run::new(names, sizes);
     all_named(run) && all_once(run)
 }

@@ -10,6 +10,17 @@ pub struct Run<'a> {
     pub ghost in_run: { total sizes.now ≤ length bytes.now },
 }
 
+impl<'a> Run<'a> {
+    ghost use Rattle.std.specs.Prelude.{◌≡◌};
+
+    pub fn new(bytes: &'a [u8], sizes: &'a [u16]) -> Self
+        requires { total sizes.now ≤ length bytes.now }
+        ensures { (result.bytes.now ≡ bytes.now) × (result.sizes.now ≡ sizes.now) }
+    {
+        Run { bytes, sizes }
+    }
+}
+
 impl<'a> Iterator for Run<'a> {
     ghost use Rattle.std.specs.Iterator.{YieldsFirstRef, item_count};
     ghost use Rattle.lists.specs.Handed.{words_of};

@@ -1,6 +1,6 @@
 -- The contract of the public call that reads an order list: its answer and what it leaves in lent memory are the defined
 -- ones.
-use Rattle.std.specs.Prelude.{◌≡◌, ◌⊎◌, List, ℕ, ◌<◌, Result, Ok, Err}
+use Rattle.std.specs.Prelude.{◌≡◌, List, ℕ, ◌<◌, Result, Ok, Err}
 use Rattle.lists.specs.Refusals.{short_buffer_number}
 use Rattle.lists.specs.Answers.{refusal_of}
 use Rattle.lists.specs.declared.numbers.Refusal.{Refusal}
@@ -31,15 +31,9 @@ pub record Gives (o : ReadOutcome) (left : Lent) (r : Answer) : Type 0 where
 abbrev pub ReadsAs : List ℕ → Lent → Lent → Answer → Type 0
 ReadsAs file before left r = Gives (read_outcome file before) left r
 
--- 13's condition in numbers: what was gathered is more than a buffer has room for
-abbrev pub Lacks : Gathered → ℕ → ℕ → ℕ → ℕ → Type 0
-Lacks all bands ls names sizes =
-    (bands < all.bands) ⊎ ((ls < all.codes) ⊎ ((names < all.names) ⊎ (sizes < all.codes)))
-
 -- from what was gathered on: whichever orders those are, the outcome is that answer's
-abbrev pub HandsOver : Gathered → List ℕ → List ℕ → List ℕ → List ℕ → Lent → Lent → Answer → Type 0
-HandsOver all bands ls names sizes before left r =
-    (x : files.Orders) → Gathering x bands ls names sizes all → Gives (outcome_for x before) left r
+abbrev pub HandsOver : Gathered → Lent → Lent → Answer → Type 0
+HandsOver all before left r = (x : files.Orders) → Gathering x all → Gives (outcome_for x before) left r
 
 -- What the call means in document 01's words. Where it answers with orders: these names and codes are what is written in
 -- the file, which keeps the rules; they stand at the beginnings of the buffers, each long enough, and the later calls take

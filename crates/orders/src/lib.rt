@@ -32,7 +32,7 @@ pub fn read_orders(
     if MOST_FILE_BYTES < file.len() {
         return Err(Fault::LongFile.into());
     }
-    if file.len() == 0 {
+    if file.is_empty() {
         return Err(Fault::WrongHeading.into());
     }
     let mut code_run = [0u8; MOST_FILE_BYTES];
@@ -46,15 +46,5 @@ pub fn read_orders(
         &mut name_run,
         &mut name_lengths,
     )?;
-    hand_over(
-        all,
-        &code_run,
-        &code_lengths,
-        &name_run,
-        &name_lengths,
-        bands,
-        lengths,
-        names,
-        sizes,
-    )
+    hand_over(all, bands, lengths, names, sizes)
 }

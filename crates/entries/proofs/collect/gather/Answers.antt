@@ -9,7 +9,7 @@ use Rattle.entries.specs.Gathering.{Roomy}
 use Rattle.words.proofs.Deciding.{is_eq, fails}
 use Rattle.lists.proofs.Runs.{to_end}
 use Rattle.entries.proofs.Mapped.{ok_before, err_before}
-use Rattle.entries.proofs.Filing.{filed_total, filed_length}
+use Rattle.entries.proofs.Filing.{filed_run, filed_length}
 use Rattle.entries.proofs.Gathering.{begins, bad_entry, small, goes_on}
 use Rattle.entries.proofs.collect.gather.Goals as goal
 
@@ -26,32 +26,36 @@ loop-rest-init c =
     } in
     (rw to_end (begins p.1 p.0 m (rw e at h.ensures)), m)
 
-pub invariant_of-before : goal.invariant_of-before
-invariant_of-before c =
-    let g = c.loop-rest.invariant.0 in
-    record { in_run = omega (arith, filed_total g.names_filed, c.split_at_mut-bytes.ensures.front_len) }
+pub new-before-requires : goal.new-before-requires
+new-before-requires c = rw c.split_at_mut-bytes.ensures.front (filed_run c.loop-rest.invariant.0.names_filed)
+
+pub new-requires : goal.new-requires
+new-requires c = filed_run c.loop-rest.invariant.0.codes_filed
+
+pub new-requires-2 : goal.new-requires-2
+new-requires-2 c = filed_run c.loop-rest.invariant.0.names_filed
 
 pub returns-in_err-row : goal.returns-in_err-row
 returns-in_err-row c =
     let p = err_from_is_err_and c.from_residual-in_err-row.result c.from_residual-in_err-row.ensures.1 in
     let e = err_before _ c.check_entry.result c.map_err-in-loop-rest.ensures.cases c.in_err-row.was in
-    let q : c.in_err-row.field-0.0 ≡ record { fault = e.0; row = 2 + c.loop-rest.all.codes } = search rules in
-    let h = rw (e.1, c.split_at_mut-bytes.ensures.front) at c.check_entry.ensures in
+    let q : c.in_err-row.field-0.0 ≡ record { fault = e.0; row = 2 + c.loop-rest.codes } = search rules in
+    let h = rw (e.1, c.new-before.ensures.0, c.new-before.ensures.1, c.split_at_mut-bytes.ensures.front) at c.check_entry.ensures in
     let left = fails (is_eq (length c.loop-rest.rest.now) 0) (sym c.loop-rest-test.ensures) in
     rw (p.1, p.2, q) (bad_entry c.loop-rest.invariant.0 left h)
 
-pub bounds-lengths-all : goal.bounds-lengths-all
-bounds-lengths-all c =
+pub bounds-lengths-codes : goal.bounds-lengths-codes
+bounds-lengths-codes c =
     let e = ok_before _ c.check_entry.result c.map_err-in-loop-rest.ensures.cases c.in_ok-row.was in
-    let h = rw (e, c.split_at_mut-bytes.ensures.front) at c.check_entry.ensures in
+    let h = rw (e, c.new-before.ensures.0, c.new-before.ensures.1, c.split_at_mut-bytes.ensures.front) at c.check_entry.ensures in
     let g = c.loop-rest.invariant.0 in
     let left = fails (is_eq (length c.loop-rest.rest.now) 0) (sym c.loop-rest-test.ensures) in
     omega (arith, small g left h (omega arith) (omega arith), g.lengths_room)
 
-pub bounds-sizes-all : goal.bounds-sizes-all
-bounds-sizes-all c =
+pub bounds-sizes-codes : goal.bounds-sizes-codes
+bounds-sizes-codes c =
     let e = ok_before _ c.check_entry.result c.map_err-in-loop-rest.ensures.cases c.in_ok-row.was in
-    let h = rw (e, c.split_at_mut-bytes.ensures.front) at c.check_entry.ensures in
+    let h = rw (e, c.new-before.ensures.0, c.new-before.ensures.1, c.split_at_mut-bytes.ensures.front) at c.check_entry.ensures in
     let g = c.loop-rest.invariant.0 in
     let left = fails (is_eq (length c.loop-rest.rest.now) 0) (sym c.loop-rest-test.ensures) in
     omega (arith, small g left h (omega arith) (omega arith), g.sizes_room)
@@ -61,7 +65,7 @@ loop-rest-preserved c =
     let e = ok_before _ c.check_entry.result c.map_err-in-loop-rest.ensures.cases c.in_ok-row.was in
     let l = c.split_at_mut-bytes.ensures in
     let k = c.split_at_mut-next_code.ensures in
-    let h = rw (e, l.front) at c.check_entry.ensures in
+    let h = rw (e, c.new-before.ensures.0, c.new-before.ensures.1, l.front) at c.check_entry.ensures in
     let g = c.loop-rest.invariant.0 in
     let m = c.loop-rest.invariant.1 in
     let left = fails (is_eq (length c.loop-rest.rest.now) 0) (sym c.loop-rest-test.ensures) in (

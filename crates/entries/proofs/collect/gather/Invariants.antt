@@ -7,7 +7,7 @@ use Rattle.entries.proofs.Gathering.{Going}
 use Rattle.entries.proofs.collect.gather.Given as goal
 
 abbrev pub invariant-loop-rest : goal.invariant-loop-rest
-invariant-loop-rest l = Going (read_orders_lem l.file) l.rest l.bands l.lengths l.names l.sizes l.all.codes l.all.bands l.all.names
+invariant-loop-rest l = Going (read_orders_lem l.file) l.rest l.bands l.lengths l.names l.sizes l.codes l.code_end l.name_end
     × Roomy l.bands l.lengths l.names l.sizes
 
 abbrev pub decreases-loop-rest : goal.decreases-loop-rest
