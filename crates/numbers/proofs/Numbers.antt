@@ -22,7 +22,7 @@ use Rattle.checking.specs.Answers.{CheckAnswer, CheckOutcome, PlaceRecord, Check
 use Rattle.checking.specs.Answers as checks
 use Rattle.places.specs.Calls.{record_of_lem}
 use Rattle.places.specs.declared.Place.{Place}
-use Rattle.places.specs.declared.Way.TheVariants.{Given}
+use Rattle.finding.specs.declared.Way.TheVariants.{Given}
 use Rattle.sheets.specs.Answers.{SheetAnswer, SheetOutcome, SheetsInto}
 use Rattle.sheets.specs.Answers as sheets
 use Rattle.programs.specs.Programs.{WritesOver}

@@ -15,7 +15,7 @@ use Rattle.checking.specs.Answers.{false_list, long_ribbon, no_colour, no_place,
 use Rattle.places.specs.Calls.{record_of_lem}
 use Rattle.verdicts.specs.Calls.{answer_of, ChecksAlone}
 use Rattle.places.specs.declared.Place as declared
-use Rattle.places.specs.declared.Way.TheVariants.{Given}
+use Rattle.finding.specs.declared.Way.TheVariants.{Given}
 use Rattle.verdicts.specs.declared.Checked.{Checked}
 use Rattle.verdicts.specs.declared.Checked.TheVariants.{Held}
 use Rattle.sheets.proofs.Decimal.{digits_ours}

@@ -13,11 +13,14 @@ use lib.Seq.{length-take-le, drop-append-le}
 use borrow.Author.Tests.{ne_eqb, lt-ltb, le-ltb, ltb-true, ltb-false}
 use Rattle.words.specs.Turn.{turned}
 use Rattle.words.proofs.Deciding.{holds, passes}
-use Rattle.lists.specs.Refusals.{whole, false_list_number, long_ribbon_number, unknown_colour_number, short_buffer_number}
+use Rattle.lists.specs.Refusals.{whole, false_list_number, long_ribbon_number, short_buffer_number}
+use Rattle.lists.specs.Answers.{number_of}
+use Rattle.lists.specs.declared.numbers.Fault.{Fault}
 use Rattle.lists.specs.declared.numbers.Refusal.{Refusal}
+use Rattle.lists.proofs.Table.{some_number}
 use Rattle.lists.specs.Outcome.{outcome}
 use Rattle.lists.specs.Runs.{codes_in, over}
-use Rattle.lists.specs.Fit.{list_ok_lem, all_bands_lem}
+use Rattle.lists.specs.Fit.{list_ok_lem}
 use Rattle.lists.proofs.Runs.{codes_count}
 use Rattle.lists.proofs.Rules.{codes_checked, is_fit_list}
 use Rattle.greedy.specs.Layout.{ribbon_for}
@@ -38,18 +41,11 @@ use Rattle.places.proofs.Finding.{count_missing, none_is_missing, records_are}
 
 -- The refusals of what is supplied, by their tests.
 module _ (run ls row : List ℕ) where
-  pub false_fault : list_ok_lem run ls ≡ false → supplied_fault_lem run ls row ≡ false_list_number
+  false_fault : list_ok_lem run ls ≡ false → supplied_fault_lem run ls row ≡ false_list_number
   false_fault e = rw (e, supplied_fault_lem)
 
-  pub long_fault : list_ok_lem run ls ≡ true → 16384 < length row → supplied_fault_lem run ls row ≡ long_ribbon_number
+  long_fault : list_ok_lem run ls ≡ true → 16384 < length row → supplied_fault_lem run ls row ≡ long_ribbon_number
   long_fault e l = rw (e, lt-ltb 16384 (length row) l, supplied_fault_lem)
-
-  module _ (ok : list_ok_lem run ls ≡ true) (l : length row ≤ 16384) where
-    pub colour_fault : all_bands_lem row ≡ false → supplied_fault_lem run ls row ≡ unknown_colour_number
-    colour_fault e = rw (ok, le-ltb 16384 (length row) l, e, supplied_fault_lem)
-
-    pub no_fault : all_bands_lem row ≡ true → supplied_fault_lem run ls row ≡ 0
-    no_fault e = rw (ok, le-ltb 16384 (length row) l, e, supplied_fault_lem)
 
   -- where no refusal is due the list is fit and the ribbon not too long
   pub not_faulty : supplied_fault_lem run ls row ≡ 0 → (list_ok_lem run ls ≡ true) × (length row ≤ 16384)
@@ -128,11 +124,12 @@ module _ (run ls row : List ℕ) (room : ℕ) where
             subst (λ (n : ℕ). ChecksRibbon run ls row before (over (take n all) before) r) (sym z) (checks_so (f before l));
       }
 
-  pub refused_in_room : {r : Result Checked Refusal} {due : ℕ} {all : List declared.Place} {f : ℕ} → f ≡ supplied_fault_lem run ls row
-      → (f ≡ 0 → ⊥) → answer_of r ≡ refused (whole f) → due ≡ 0 → all ≡ blanks → ChecksInRoom run ls row room r due all
-  refused_in_room e n a z b =
+  pub refused_in_room : (f : Fault) {r : Result Checked Refusal} {due : ℕ} {all : List declared.Place}
+      → number_of f ≡ supplied_fault_lem run ls row → answer_of r ≡ refused (whole (number_of f)) → due ≡ 0 → all ≡ blanks
+      → ChecksInRoom run ls row room r due all
+  refused_in_room f e a z b =
       none_due z b (λ before l.
-      refused_outcome run ls row (records_of before) (sym e) n
+      refused_outcome run ls row (records_of before) (sym e) (λ n. omega (arith, some_number f, n))
       ∙ ap (λ (x : CheckAnswer). outcome x (records_of before)) (sym a))
 
   module _ (fit : supplied_fault_lem run ls row ≡ 0) {count : ℕ} {places : List declared.Place} (p : FindsPlaces run ls row count places) where

@@ -1,7 +1,6 @@
 -- `check_places`: the answer follows the tests, and the records that are due are those of the search.
 use Rattle.std.proofs.Common.{sym, ap, ◌∙◌, ℕ, length, w32, arith}
 use Rattle.std.proofs.lemmas.Int.{to_z-of_z}
-use Rattle.lists.proofs.Table.{some_number}
 use Rattle.greedy.proofs.Room.{ribbon_at_most}
 use Rattle.checking.specs.Answers.{less}
 use Rattle.verdicts.specs.Calls.{answer_of}
@@ -10,29 +9,19 @@ use Rattle.verdicts.proofs.check_places.Goals as goal
 
 pub returns-in-Err : goal.returns-in-Err
 returns-in-Err c =
-    let a = c.args in
     let e = c.without_records.ensures in
-    refused_in_room a.bands.now a.lengths.now a.ribbon.now a.room c.in-Err.ensures
-    (λ z. omega (arith, some_number c.in-Err.fault, z)) (ap answer_of e.0 ∙ rw c.into.ensures) e.1 e.2
-
-pub find_places-sought-requires : goal.find_places-sought-requires
-find_places-sought-requires c =
-    let a = c.args in
-    not_faulty a.bands.now a.lengths.now a.ribbon.now (sym c.in_default.ensures)
+    refused_in_room _ _ _ _ c.in-Err.fault c.in-Err.ensures (ap answer_of e.0 ∙ rw c.into.ensures) e.1 e.2
 
 pub returns-then-count-lengths : goal.returns-then-count-lengths
 returns-then-count-lengths c =
-    let a = c.args in
     let e = c.without_records-then-count-lengths.ensures in
-    missing_in_room a.bands.now a.lengths.now a.ribbon.now a.room (sym c.in_default.ensures) c.find_places-sought.ensures
-    c.if-count-lengths.true (ap answer_of e.0) e.1 e.2
+    missing_in_room _ _ _ _ (sym c.in_default.ensures) c.find_places-sought.ensures c.if-count-lengths.true (ap answer_of e.0) e.1 e.2
 
 pub returns-then-room-count : goal.returns-then-room-count
 returns-then-room-count c =
-    let a = c.args in
     let e = c.without_records-then-room-count.ensures in
-    short_in_room a.bands.now a.lengths.now a.ribbon.now a.room (sym c.in_default.ensures) c.find_places-sought.ensures
-    c.if-count-lengths.false c.if-room-count.true (ap answer_of e.0 ∙ rw c.into-then-room-count.ensures) e.1 e.2
+    short_in_room _ _ _ _ (sym c.in_default.ensures) c.find_places-sought.ensures c.if-count-lengths.false c.if-room-count.true
+    (ap answer_of e.0 ∙ rw c.into-then-room-count.ensures) e.1 e.2
 
 pub difference-longer-requires : goal.difference-longer-requires
 difference-longer-requires c =
@@ -43,8 +32,6 @@ difference-longer-requires c =
 
 pub returns : goal.returns
 returns c =
-    let a = c.args in
-    held_in_room a.bands.now a.lengths.now a.ribbon.now a.room (sym c.in_default.ensures) c.find_places-sought.ensures
-    c.if-count-lengths.false c.if-room-count.false
+    held_in_room _ _ _ _ (sym c.in_default.ensures) c.find_places-sought.ensures c.if-count-lengths.false c.if-room-count.false
     (to_z-of_z w32 _ (record { sfits = c.difference-longer.type_inv }) ∙ c.difference-longer.ensures
-    ∙ ap (λ (n : ℕ). less (length a.ribbon.now) n) c.computed_length.ensures)
+    ∙ ap (λ (n : ℕ). less (length c.args.ribbon.now) n) c.computed_length.ensures)
