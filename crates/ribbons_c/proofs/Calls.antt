@@ -1,6 +1,7 @@
 -- No answer is lost in its plain form: the number of a refusal is above 0 and has one word, and its row is 0 but for order
 -- lists. So the plain form of an answer that keeps a contract is read as that answer.
 use Rattle.std.proofs.Common.{◌≡◌, refl, sym, ap, subst, ◌∙◌, List, ℕ, zero, suc, ◌≤◌, ◌<◌, arith, length, take, Result, Ok, Err}
+use lib.IntN.{ℤ}
 use lib.Seq.{take_at, take-length}
 use Rattle.lists.specs.Answers.{number_of}
 use Rattle.lists.specs.declared.numbers.Fault.{Fault}
@@ -26,8 +27,8 @@ use Rattle.sheets.specs.Answers.{SheetAnswer, SheetOutcome, SheetsInto}
 use Rattle.sheets.specs.Answers as sheets
 use Rattle.writer.specs.Calls.{WritesSheet}
 use Rattle.writer.specs.declared.Wrote.{Wrote}
-use Rattle.ribbons_c.specs.Calls.{Tells, answer_by_number, word_of, refusal_by, plain_read, read_of, plain_laid, laid_of}
-use Rattle.ribbons_c.specs.Calls.{plain_checked, checked_of, plain_wrote, wrote_of, TellsRibbon}
+use Rattle.ribbons_c.specs.Calls.{Tells, answer_by_number, word_of, refusal_by, plain_read, read_of, TellsOrders, plain_laid, laid_of, TellsLaid}
+use Rattle.ribbons_c.specs.Calls.{plain_checked, checked_of, TellsChecked, plain_wrote, wrote_of, TellsSheet, TellsRibbon}
 
 -- the plain form r of an answer x
 pub tells : {A B : Type 0} {meets : A → Type 0} {plain : A → B} {read_as : B → A} {x : A} {r : B}
@@ -62,6 +63,10 @@ pub read_back : {file : List ℕ} {before left : Lent} (a : Result Orders Refusa
 read_back (Ok o) m = refl
 read_back (Err r) m = refusal_back _ r
 
+pub tells_orders : (file : List ℕ) (before : Lent) {left : Lent} {x y : Result Orders Refusal} → x ≡ y
+    → ReadsOrders file before left x → TellsOrders file before left (plain_read y)
+tells_orders file before e m = tells read_back (subst (ReadsOrders file before _) e m) refl
+
 -- Laying out a ribbon.
 abbrev WholeLay : LayAnswer → Type 0
 WholeLay (lays.refused r) = r.row ≡ 0
@@ -76,6 +81,10 @@ pub laid_back : {run ls before after : List ℕ} (a : Result Laid Refusal) → L
     → laid_of (plain_laid a) ≡ a
 laid_back (Ok l) m = refl
 laid_back (Err r) m = whole_back _ r (whole_lay m.means)
+
+pub tells_laid : (run ls before : List ℕ) {after : List ℕ} {x y : Result Laid Refusal} → x ≡ y
+    → LaysRibbon run ls before after x → TellsLaid run ls before after (plain_laid y)
+tells_laid run ls before e m = tells laid_back (subst (LaysRibbon run ls before _) e m) refl
 
 -- Checking a ribbon.
 abbrev WholeCheck : CheckAnswer → Type 0
@@ -102,6 +111,17 @@ checked_back (Ok (Missing k)) m = refl
 checked_back (Ok (Held d)) m = refl
 checked_back (Err r) m = whole_back _ r (whole_check (m.checks blanks enough).means)
 
+pub tells_checked : (run ls row : List ℕ) {x y : Result Checked Refusal} → x ≡ y → ChecksAlone run ls row x
+    → TellsChecked run ls row (plain_checked y)
+tells_checked run ls row e m = tells checked_back (subst (ChecksAlone run ls row) e m) refl
+
+-- the difference, through the machine's number
+pub tells_held : (run ls row : List ℕ) {x : Result Checked Refusal} {d z : ℤ} → x ≡ Ok (Held d) → z ≡ d
+    → ChecksAlone run ls row x
+    → TellsChecked run ls row (record { refused = 0; held = true; missing = 0; difference = z })
+tells_held run ls row e f m =
+    tells checked_back (subst (ChecksAlone run ls row) e m) (ap (λ (d : ℤ). plain_checked (Ok (Held d))) f)
+
 -- Writing the sheet.
 abbrev WholeSheet : SheetAnswer → Type 0
 WholeSheet (sheets.refused r) = r.row ≡ 0
@@ -117,6 +137,12 @@ pub wrote_back : {run ls name_run name_ls before after : List ℕ} (a : Result W
     → WritesSheet run ls name_run name_ls before after a → wrote_of (plain_wrote a) ≡ a
 wrote_back (Ok w) m = refl
 wrote_back (Err r) m = whole_back _ r (whole_sheet m.means)
+
+pub tells_sheet : (run ls name_run name_ls before : List ℕ) {after : List ℕ} {x y : Result Wrote Refusal} → x ≡ y
+    → WritesSheet run ls name_run name_ls before after x
+    → TellsSheet run ls name_run name_ls before after (plain_wrote y)
+tells_sheet run ls name_run name_ls before e m =
+    tells wrote_back (subst (WritesSheet run ls name_run name_ls before _) e m) refl
 
 -- The ribbon stands at the front of its file.
 front_of : {s r : List ℕ} → RibbonFile s r → take (length r) s ≡ r
