@@ -7,9 +7,10 @@ ghost use Rattle.places.specs.Calls.{FindsPlaces, blanks};
 
 mod records; // the record of a code
 
-use lists::MOST_CODES;
+use finding::find_place;
+use lists::{MOST_CODES, Run};
+use records::record_of;
 pub use records::{count_from, find_nth};
-use records::{place_of, record_of};
 
 // A way of a code, with the start at which it stands: either for a code equal to its turned form.
 pub type Way = finding::Way<u32>;
@@ -44,15 +45,16 @@ pub fn find_places(bands: &[u8], lengths: &[u16], ribbon: &[u8]) -> Sought
     requires { (list_ok_lem bands.now lengths.now ≡ true) × (length ribbon.now ≤ 16384) }
     ensures { FindsPlaces bands.now lengths.now ribbon.now result.count result.records }
 {
+    let codes = Run {
+        bytes: bands,
+        sizes: lengths,
+    };
     let mut records = blank();
-    let mut at = 0;
-    for (i, length) in lengths.iter().enumerate() {
-        let size = usize::from(*length);
-        let Some(way) = place_of(bands, at, size, ribbon) else {
+    for (i, code) in codes.enumerate() {
+        let Some(way) = find_place(code, ribbon, 0) else {
             return Sought { count: i, records };
         };
         records[i] = record_of(way, i);
-        at += size;
     }
     Sought {
         count: lengths.len(),

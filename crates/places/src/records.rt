@@ -1,25 +1,15 @@
 // The record of a code that has a place.
 ghost use Rattle.std.specs.Prelude.{◌≡◌, ◌+◌, ◌≤◌, ◌<◌, length, take, drop};
 ghost use Rattle.words.specs.Turn.{turned};
-ghost use Rattle.words.specs.Place as p;
 ghost use Rattle.words.specs.Count.{count_of};
-ghost use Rattle.finding.specs.Answers.{place_in};
 ghost use Rattle.places.specs.Starts.{StartsWithin};
 ghost use Rattle.lists.specs.Runs.{codes_in};
 ghost use Rattle.greedy.specs.Dropping.{code_at};
 ghost use Rattle.places.specs.Calls.{way_at, record_of_lem, place_for, HasPlace};
 
 use crate::Place;
-use finding::Way;
+use finding::{Way, find_place};
 use fitness::sum_of;
-
-// The place of the code of so many bands that starts at a number in the lent run.
-pub fn place_of(bands: &[u8], at: usize, size: usize, ribbon: &[u8]) -> Option<Way<usize>>
-    requires { (at + size ≤ length bands.now) × (at + size < 65536) × (1 ≤ size) × (size ≤ 64) }
-    ensures { place_in result ≡ p.place_of turned 0 (take size (drop at bands.now)) ribbon.now }
-{
-    finding::find_place(&bands[at..at + size], ribbon, 0)
-}
 
 // How often the code of so many bands that starts at a number in the lent run stands on the ribbon from a start on.
 pub fn count_from(bands: &[u8], at: usize, size: usize, ribbon: &[u8], start: usize) -> usize
@@ -59,6 +49,6 @@ pub fn find_nth(bands: &[u8], lengths: &[u16], ribbon: &[u8], i: usize) -> Place
     ensures { result ≡ place_for i (code_at (codes_in bands.now lengths.now) i) ribbon.now }
 {
     let at = sum_of(&lengths[0..i]);
-    let size = usize::from(lengths[i]);
-    record_of(place_of(bands, at, size, ribbon).unwrap(), i)
+    let code = &bands[at..at + usize::from(lengths[i])];
+    record_of(find_place(code, ribbon, 0).unwrap(), i)
 }
