@@ -110,8 +110,8 @@ module _ {file : List ℕ} {b left : Lent} {codes bands names : ℕ} (p : Accept
   pub list_fits : list_ok_lem (take bands left.code_run) (take codes left.code_lengths) ≡ true
   list_fits = rw (run_is, lengths_are) h.list_passes
 
-  pub names_fit_list : names_ok_lem (length (take codes left.code_lengths)) (take names left.name_run) (take codes left.name_lengths) ≡ true
-  names_fit_list = rw (lengths_are, name_run_is, sizes_are, length-map p.cs length) h.names_pass
+  pub names_fit_list : names_ok_lem codes (take names left.name_run) (take codes left.name_lengths) ≡ true
+  names_fit_list = rw (name_run_is, sizes_are, counts_are.0, length-map p.cs length) h.names_pass
 
   pub counts_fit : (bands ≤ 8192) × (codes ≤ 128) × (names ≤ 3072)
   counts_fit = (

@@ -13,7 +13,8 @@ fn check_line(list: &OrderList, ribbon: &[u8], out: &mut [u8]) -> usize
     requires { 32 ≤ length out.old }
     ensures { WritesOver (checked_line (codes_of list.now) ribbon.now) out.old out.new result }
 {
-    match check_only(list.bands(), list.lengths(), ribbon) {
+    let codes = list.codes();
+    match check_only(codes.bytes, codes.sizes, ribbon) {
         Ok(Checked::Missing(k)) => missing_line(k, out),
         Ok(Checked::Held(d)) => held_line(d, out),
         Err(r) => refused_line(r, out),

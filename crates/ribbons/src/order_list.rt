@@ -2,7 +2,7 @@
 ghost use Rattle.std.specs.Prelude.{◌≡◌, true, ◌≤◌, length, take};
 ghost use Rattle.lists.specs.Fit.{list_ok_lem, names_ok_lem};
 
-use lists::{MOST_BANDS, MOST_CODES, MOST_NAME_BYTES, Refusal};
+use lists::{MOST_BANDS, MOST_CODES, MOST_NAME_BYTES, Refusal, Run};
 use orders::{Orders, read_orders};
 
 // How much was read, at the beginnings of buffers that suffice for any list; its codes and names are fit.
@@ -17,11 +17,12 @@ pub struct OrderList {
     ghost in_codes: { counts.codes ≤ 128 },
     ghost in_names: { counts.names ≤ 3072 },
     ghost list_fits: { list_ok_lem (take counts.bands bands) (take counts.codes lengths) ≡ true },
-    ghost names_fit: { names_ok_lem (length (take counts.codes lengths)) (take counts.names names) (take counts.codes sizes) ≡ true },
+    ghost names_fit: { names_ok_lem counts.codes (take counts.names names) (take counts.codes sizes) ≡ true },
 }
 
 impl OrderList {
-    ghost use Rattle.ribbons.specs.OrderLists.{ReadAs};
+    ghost use Rattle.lists.specs.Handed.{words_of};
+    ghost use Rattle.ribbons.specs.OrderLists.{codes_of, names_of, ReadAs};
 
     // The list in a file, or its refusal, which is never one of our buffers.
     pub fn read(file: &[u8]) -> Result<OrderList, Refusal>
@@ -41,35 +42,30 @@ impl OrderList {
         })
     }
 
-    // The run of its codes.
-    pub fn bands(&self) -> &[u8]
-        ensures { result.now ≡ take self.now.counts.bands self.now.bands }
+    // Its codes.
+    pub fn codes(&self) -> Run<'_>
+        ensures words { words_of result ≡ codes_of self.now }
+        ensures count { length result.sizes.now ≡ self.now.counts.codes }
+        ensures fit { list_ok_lem result.bytes.now result.sizes.now ≡ true }
     {
-        let n = self.counts.bands as usize;
-        &self.bands[..n]
+        let bands = self.counts.bands as usize;
+        let codes = self.counts.codes as usize;
+        Run {
+            bytes: &self.bands[..bands],
+            sizes: &self.lengths[..codes],
+        }
     }
 
-    // The codes' lengths.
-    pub fn lengths(&self) -> &[u16]
-        ensures { result.now ≡ take self.now.counts.codes self.now.lengths }
+    // Its names.
+    pub fn names(&self) -> Run<'_>
+        ensures words { words_of result ≡ names_of self.now }
+        ensures fit { names_ok_lem self.now.counts.codes result.bytes.now result.sizes.now ≡ true }
     {
-        let n = self.counts.codes as usize;
-        &self.lengths[..n]
-    }
-
-    // The run of its names.
-    pub fn names(&self) -> &[u8]
-        ensures { result.now ≡ take self.now.counts.names self.now.names }
-    {
-        let n = self.counts.names as usize;
-        &self.names[..n]
-    }
-
-    // The names' lengths.
-    pub fn sizes(&self) -> &[u16]
-        ensures { result.now ≡ take self.now.counts.codes self.now.sizes }
-    {
-        let n = self.counts.codes as usize;
-        &self.sizes[..n]
+        let bytes = self.counts.names as usize;
+        let names = self.counts.codes as usize;
+        Run {
+            bytes: &self.names[..bytes],
+            sizes: &self.sizes[..names],
+        }
     }
 }

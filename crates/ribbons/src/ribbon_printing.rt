@@ -15,7 +15,8 @@ fn ribbon_line(list: &OrderList, out: &mut [u8]) -> usize
     requires { 8194 ≤ length out.old }
     ensures { WritesOver (ribbon_for turned (codes_of list.now) ++ line_break) out.old out.new result }
 {
-    let laid = lay_ribbon(list.bands(), list.lengths(), out).unwrap();
+    let codes = list.codes();
+    let laid = lay_ribbon(codes.bytes, codes.sizes, out).unwrap();
     matching::put_word(b"\r\n", out, laid.bands as usize)
 }
 

@@ -14,14 +14,9 @@ fn sheet_text(list: &OrderList, out: &mut [u8]) -> usize
     requires { 17181 ≤ length out.old }
     ensures { WritesOver (sheet_text_lem (names_of list.now) (codes_of list.now)) out.old out.new result }
 {
-    let wrote = write_sheet(
-        list.bands(),
-        list.lengths(),
-        list.names(),
-        list.sizes(),
-        out,
-    )
-    .unwrap();
+    let codes = list.codes();
+    let names = list.names();
+    let wrote = write_sheet(codes.bytes, codes.sizes, names.bytes, names.sizes, out).unwrap();
     wrote.bytes as usize
 }
 
