@@ -176,7 +176,3 @@ module _ {x : Orders} {rest bands ls names sizes : List ℕ} {count bmark nmark 
 
     pub no_entries : count ≡ 0 → x ≡ bad empty_list_number 0
     no_entries e = at_end ∙ ap by_count (eq-eqb (length g.cs) 0 (omega (arith, filed_count g.codes_filed)))
-
-    pub all_entries : count ≢ 0 → x ≡ orders 0 0 g.ns g.cs
-    all_entries e =
-        at_end ∙ ap by_count (ne_eqb (length g.cs) 0 (λ q. e (omega (arith, filed_count g.codes_filed))))

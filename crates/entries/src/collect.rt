@@ -14,6 +14,7 @@ pub struct Gathered<'a> {
 }
 
 // The heading, then the entries: each faultless entry is gathered in the buffers behind those before it.
+// Four buffers and no struct of them (tried): a struct's run, lent in two parts, bars its lengths from being lent too.
 pub fn gather<'a>(
     file: &[u8],
     bands: &'a mut [u8],

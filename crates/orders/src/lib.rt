@@ -19,7 +19,7 @@ pub struct Orders {
 }
 
 // Reads an order list into four lent buffers: for the codes their run and a length each, for the names their run and a
-// length each. A refused call changes no lent byte.
+// length each, as C lends them. A refused call changes no lent byte.
 pub fn read_orders(
     file: &[u8],
     bands: &mut [u8],

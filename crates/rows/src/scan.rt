@@ -80,6 +80,7 @@ pub fn read_row(here: &[u8], names: &mut [u8], bands: &mut [u8]) -> Option<RowRe
 {
     let mut mode = Mode::Start;
     let mut fields: usize = 0;
+    // so many bytes of each buffer are filled: there is no heap to push to
     let mut name: usize = 0;
     let mut code: usize = 0;
     for (i, &b) in here.iter().enumerate() {
