@@ -1,5 +1,5 @@
 // The scan of one row of an RFC 4180 file, byte by byte.
-ghost use Rattle.std.specs.Prelude.{◌≡◌, ◌≢◌, ℕ, ◌≤◌, length, Option};
+ghost use Rattle.std.specs.Prelude.{◌≡◌, ◌≢◌, ℕ, ◌+◌, ◌≤◌, ◌<◌, length, slice_set, Option};
 ghost use Rattle.grammar.specs.Files.{quote};
 ghost use Rattle.grammar.specs.Rows.{Outside, takes_text, outside, inside};
 ghost use Rattle.rows.specs.Scans.{ReadsRow};
@@ -79,38 +79,31 @@ pub fn read_row(here: &[u8], names: &mut [u8], bands: &mut [u8]) -> Option<RowRe
     ensures { ReadsRow here.now names.new bands.new result }
 {
     let mut mode = Mode::Start;
-    let mut fields: usize = 0;
-    // so many bytes of each buffer are filled: there is no heap to push to
-    let mut name: usize = 0;
-    let mut code: usize = 0;
+    let mut row = RowRead {
+        fields: 1,
+        name: 0,
+        code: 0,
+        size: 0,
+    };
     for (i, &b) in here.iter().enumerate() {
+        row.size = i + 1;
         match take_byte(mode, b, here.get(i + 1).copied()) {
             Step::Comma => {
-                fields += 1;
+                row.fields += 1;
                 mode = Mode::Start;
             }
             Step::Keep(m) => {
-                match fields {
-                    0 => {
-                        names[name] = b;
-                        name += 1;
-                    }
-                    1 => {
-                        bands[code] = b;
-                        code += 1;
-                    }
+                match row.fields {
+                    1 => row.name = keep(names, row.name, b),
+                    2 => row.code = keep(bands, row.code, b),
                     _ => {}
                 }
                 mode = m;
             }
             Step::Skip(m) => mode = m,
             Step::Ends => {
-                return Some(RowRead {
-                    fields: fields + 1,
-                    name,
-                    code,
-                    size: i + 2,
-                });
+                row.size += 1;
+                return Some(row);
             }
             Step::Broken => return None,
         }
@@ -118,10 +111,15 @@ pub fn read_row(here: &[u8], names: &mut [u8], bands: &mut [u8]) -> Option<RowRe
     if matches!(mode, Mode::Inside) {
         return None;
     }
-    Some(RowRead {
-        fields: fields + 1,
-        name,
-        code,
-        size: here.len(),
-    })
+    Some(row)
+}
+
+// A byte behind the first n of a buffer, and how many there are then: there is no heap to push to.
+fn keep(buffer: &mut [u8], n: usize, b: u8) -> usize
+    requires { n < length buffer.old }
+    ensures put { buffer.new ≡ slice_set buffer.old n b }
+    ensures more { result ≡ n + 1 }
+{
+    buffer[n] = b;
+    n + 1
 }

@@ -4,4 +4,4 @@ use Rattle.rows.proofs.Scanning.{Scanning}
 use Rattle.rows.proofs.scan.read_row.Given as goal
 
 abbrev pub invariant-loop-i : goal.invariant-loop-i
-invariant-loop-i l = Scanning l.here l.names l.bands l.mode l.i l.fields l.name l.code
+invariant-loop-i l = Scanning l.here l.names l.bands l.mode l.i l.row
