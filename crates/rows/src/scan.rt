@@ -73,7 +73,8 @@ fn take_byte(mode: Mode, b: u8, next: Option<u8>) -> Step
 }
 
 // The row that begins here, or none where it breaks the grammar: the contents of its first two fields go to the
-// beginnings of the buffers.
+// beginnings of the buffers. Two buffers and no struct of them: one that holds a `&mut` needs a clause more in each function
+// that it is lent to, that the reference stays the same.
 pub fn read_row(here: &[u8], names: &mut [u8], bands: &mut [u8]) -> Option<RowRead>
     requires { (length here.now ≤ length names.old) × (length here.now ≤ length bands.old) }
     ensures { ReadsRow here.now names.new bands.new result }
