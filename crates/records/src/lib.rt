@@ -11,7 +11,7 @@ use verdicts::Checked;
 // puts a record of each code's place, in list order, at the beginning of those that are lent; or missing, with the lowest
 // number of a code that stands on the ribbon neither way. It refuses a false list by 12, a ribbon of over 16,384 bands by 15,
 // one with another byte than A to Z by 8, and too few records by 13, the last only where it would answer held. Where it does
-// not answer held, nothing lent is touched.
+// not answer held, nothing lent is touched. The list comes as two slices, as C passes it.
 pub fn check_ribbon(
     bands: &[u8],
     lengths: &[u16],

@@ -27,9 +27,7 @@ module _ (run ls name_run name_ls before : List ℕ) {after : List ℕ} {r : Res
   not_refused : (x : Result Wrote Refusal) → r ≡ x → IsOk x
   not_refused (Ok wrote) e = search rules
   not_refused (Err refusal) e =
-      let f = (told e).answer ∙ accepts run ls name_run name_ls ok named before room in
-      let z : ◌≡◌ {A = ℕ} 0 1 = cc in
-      absurd (omega arith)
+      let f = (told e).answer ∙ accepts run ls name_run name_ls ok named before room in cc
 
   pub sheet_accepted : IsOk r
   sheet_accepted = not_refused r refl

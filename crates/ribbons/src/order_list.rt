@@ -5,7 +5,8 @@ ghost use Rattle.lists.specs.Fit.{list_ok_lem, names_ok_lem};
 use lists::{MOST_BANDS, MOST_CODES, MOST_NAME_BYTES, Refusal, Run};
 use orders::{Orders, read_orders};
 
-// How much was read, at the beginnings of buffers that suffice for any list; its codes and names are fit.
+// How much was read, at the beginnings of buffers that suffice for any list, since no memory is asked for. Its codes and names
+// are fit.
 #[derive(Drop)]
 pub struct OrderList {
     pub counts: Orders,

@@ -18,8 +18,8 @@ pub enum Checked {
     Held(i32),
 }
 
-// The answer of a check, or the refusal, 12, 15, 8 or 13; and the records that are due: so many, at the front of a row. Behind
-// them none is set.
+// The answer of a check, or the refusal, 12, 15, 8 or 13; and the records that are due: so many, at the front of a row, which
+// suffices for any list, since no memory is asked for. Behind them none is set.
 #[derive(Drop)]
 pub struct Findings {
     pub answer: Result<Checked, Refusal>,
@@ -40,7 +40,8 @@ fn without_records(answer: Result<Checked, Refusal>) -> Findings
 }
 
 // Checks a ribbon that is supplied for a list of codes, as records::check_ribbon does where so many records are lent, and
-// hands the records that are due back by value. It refuses 12, 15, 8 and 13 as that does.
+// hands the records that are due back by value. It refuses 12, 15, 8 and 13 as that does. The list comes as two slices, as C
+// passes it.
 pub fn check_places(bands: &[u8], lengths: &[u16], ribbon: &[u8], room: usize) -> Findings
     ensures { ChecksInRoom bands.now lengths.now ribbon.now room result.answer result.due result.records }
 {
@@ -65,7 +66,7 @@ pub fn check_places(bands: &[u8], lengths: &[u16], ribbon: &[u8], room: usize) -
 }
 
 // Checks a ribbon that is supplied for a list of codes, as records::check_ribbon does where there is room enough, for callers
-// that want no records. It refuses 12, 15 and 8.
+// that want no records. It refuses 12, 15 and 8. The list comes as two slices, as C passes it.
 pub fn check_only(bands: &[u8], lengths: &[u16], ribbon: &[u8]) -> Result<Checked, Refusal>
     ensures { ChecksAlone bands.now lengths.now ribbon.now result }
 {
