@@ -2,9 +2,9 @@
 use mathlib.Core.Path.{◌≡◌, refl, sym, ◌∙◌}
 use mathlib.Core.Logic.{◌⊎◌, inl, inr}
 use mathlib.Core.List.{List}
-use Prim.Native.Nat.{ℕ, ◌+◌}
+use Prim.Native.Nat.{ℕ, ◌+◌, ◌≤◌}
 use native.Mathlib.Omega.{arith}
-use native.Mathlib.Decide.{ℕ_discrete}
+use native.Mathlib.Decide.{ℕ_discrete, dec_le}
 use lib.ListN.{get_or}
 use Rattle.std.proofs.Common.{Option, Some, None}
 use Rattle.faces.specs.Passing.{Lowest, Under, Lower, Among}
@@ -61,7 +61,11 @@ module _ (faces : List ℕ) (i : ℕ) {Has : ℕ → Type 0} where
 pub lowest_none : (faces : List ℕ) {Has : ℕ → Type 0} → Lowest (Among faces 0 Has) None
 lowest_none faces b a = absurd (omega (arith, a.within))
 
--- what numbers have one property that have another
-pub lowest_same : {P Q : ℕ → Type 0} → ((b : ℕ) → P b → Q b) → ((b : ℕ) → Q b → P b) → (r : Option ℕ) → Lowest P r → Lowest Q r
-lowest_same to from None w = λ b q. w b (from b q)
-lowest_same to from (Some r) w = (to r w.0, λ b q. w.1 b (from b q))
+-- what has one property has another, and the other way round
+pub lowest_same : {P Q : ℕ → Type 0} → ((b : ℕ) → P b → Q b) → ((b : ℕ) → Q b → (P b → ⊥) → ⊥) → (r : Option ℕ) → Lowest P r → Lowest Q r
+lowest_same to from None w = λ b q. from b q (w b)
+lowest_same {Q = Q} to from (Some r) w = (to r w.0, λ b q. under b q (dec_le r b))
+  where
+    under : (b : ℕ) → Q b → Dec (r ≤ b) → r ≤ b
+    under b q (yes l) = l
+    under b q (no d) = absurd (from b q (λ p. d (w.1 b p)))

@@ -8,44 +8,43 @@ ghost use Rattle.joining.specs.Joins.{row_of};
 ghost use Rattle.greedy.specs.Reading.{shared};
 ghost use Rattle.greedy.specs.Layout.{order_for};
 ghost use Rattle.parts.specs.Parts.{FewCodes};
-ghost use Rattle.sorting.specs.Sorted.{SortedFaces};
 
 use crate::following::lowest_following;
 use joining::{end_from, make_join, mirror_of, write_order};
 use parts::Parts;
-use sorting::sort_faces;
+use sorting::Sorted;
 
 // The join from face a with overlap o, where a ends a piece and some face can follow: of those the lowest.
-fn join_from(parts: &Parts<'_>, sorted: &[usize], after: &mut [Option<usize>], o: usize, a: usize)
-    requires { SortedFaces parts.now sorted.now × (a < 2 * length parts.now) × PassedRow (length parts.now) (shared turned parts.now) (row_of after.old) o a }
-    ensures { PassedRow (length parts.now) (shared turned parts.now) (row_of after.new) o (a + 1) }
+fn join_from(sorted: &Sorted<'_>, after: &mut [Option<usize>], o: usize, a: usize)
+    requires { (a < 2 * length sorted.now) × PassedRow (length sorted.now) (shared turned sorted.now) (row_of after.old) o a }
+    ensures { PassedRow (length sorted.now) (shared turned sorted.now) (row_of after.new) o (a + 1) }
 {
     if after[a].is_some() {
         return;
     }
-    let head = mirror_of(end_from(after, parts.len(), mirror_of(a)));
-    if let Some(b) = lowest_following(parts, sorted, after, a, o, head) {
+    let head = mirror_of(end_from(after, sorted.parts().len(), mirror_of(a)));
+    if let Some(b) = lowest_following(sorted, after, a, o, head) {
         make_join(after, a, b);
     }
 }
 
 // All joins with overlap o.
-fn join_faces_at(parts: &Parts<'_>, sorted: &[usize], after: &mut [Option<usize>], o: usize)
-    requires { SortedFaces parts.now sorted.now × PassedRow (length parts.now) (shared turned parts.now) (row_of after.old) o 0 }
-    ensures { PassedRow (length parts.now) (shared turned parts.now) (row_of after.new) o (2 * length parts.now) }
+fn join_faces_at(sorted: &Sorted<'_>, after: &mut [Option<usize>], o: usize)
+    requires { PassedRow (length sorted.now) (shared turned sorted.now) (row_of after.old) o 0 }
+    ensures { PassedRow (length sorted.now) (shared turned sorted.now) (row_of after.new) o (2 * length sorted.now) }
 {
-    for a in 0..2 * parts.len() {
-        join_from(parts, sorted, after, o, a);
+    for a in 0..2 * sorted.parts().len() {
+        join_from(sorted, after, o, a);
     }
 }
 
 // The whole pass, from a row with no joins. No face has more than 64 bands.
-fn run_pass(parts: &Parts<'_>, sorted: &[usize], after: &mut [Option<usize>])
-    requires { FewCodes parts.now × SortedFaces parts.now sorted.now × Unjoined (length parts.now) (row_of after.old) }
-    ensures { Laid (length parts.now) (shared turned parts.now) (row_of after.new) }
+fn run_pass(sorted: &Sorted<'_>, after: &mut [Option<usize>])
+    requires { FewCodes sorted.now × Unjoined (length sorted.now) (row_of after.old) }
+    ensures { Laid (length sorted.now) (shared turned sorted.now) (row_of after.new) }
 {
     for o in (0..65).rev() {
-        join_faces_at(parts, sorted, after, o);
+        join_faces_at(sorted, after, o);
     }
 }
 
@@ -56,9 +55,7 @@ pub fn order_faces(parts: &Parts<'_>, order: &mut [usize]) -> usize
     ensures few { result ≤ 256 }
 {
     let n = parts.len();
-    let mut sorted = [0; 256];
-    sort_faces(parts, &mut sorted);
     let mut after = [None; 256];
-    run_pass(parts, &sorted, &mut after);
+    run_pass(&Sorted::of(parts), &mut after);
     write_order(&after, n, order)
 }

@@ -1,13 +1,12 @@
 // From a list of codes to its ribbon: contained codes dropped, faces put in order, the ribbon of that order written.
 #![tactic(auto)]
 
-ghost use Rattle.spelling.specs.Ribbons.{InOrder};
 ghost use Rattle.layout.specs.Calls.{Gives, order_outcome, kept_outcome, LaysRibbon};
 
 use faces::order_faces;
 use lists::{Fault, Refusal, Run};
 use parts::Parts;
-use spelling::{measure, write_bands};
+use spelling::Order;
 
 // A ribbon's length, and what it saves.
 #[derive(Clone, Copy)]
@@ -17,16 +16,15 @@ pub struct Laid {
 }
 
 // The ribbon of an order of faces, written where it fits.
-fn lay_order(parts: &Parts<'_>, order: &[usize], ribbon: &mut [u8]) -> Result<Laid, Refusal>
-    requires { InOrder parts.now order.now }
-    ensures { Gives (order_outcome parts.now order.now ribbon.old) ribbon.new result }
+fn lay_order(order: &Order<'_>, ribbon: &mut [u8]) -> Result<Laid, Refusal>
+    ensures { Gives (order_outcome order.now.parts.now order.now.faces.now ribbon.old) ribbon.new result }
 {
     let mut skips = [0usize; 256];
-    let sums = measure(parts, order, &mut skips);
+    let sums = order.measure(&mut skips);
     if ribbon.len() < sums.bands {
         return Err(Fault::ShortBuffer.into());
     }
-    write_bands(parts, order, &skips, ribbon);
+    order.write_bands(&skips, ribbon);
     Ok(Laid {
         bands: sums.bands as u32,
         saved: sums.saved as u32,
@@ -39,7 +37,11 @@ fn lay_kept(parts: &Parts<'_>, ribbon: &mut [u8]) -> Result<Laid, Refusal>
 {
     let mut order = [0usize; 256];
     let count = order_faces(parts, &mut order);
-    lay_order(parts, &order[..count], ribbon)
+    let order = Order {
+        parts,
+        faces: &order[..count],
+    };
+    lay_order(&order, ribbon)
 }
 
 // Lays out a list of codes, one run of bands and a length for each, into a lent ribbon. It answers with the ribbon's length

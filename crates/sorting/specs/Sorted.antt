@@ -1,5 +1,5 @@
 -- Words in the order of their bands (lexicographic), the faces of codes sorted in it, and what a search among them gives.
-use Rattle.std.specs.Prelude.{◌≡◌, List, [], ◌∷◌, ℕ, ◌+◌, ◌-◌, ◌*◌, ◌≤◌, ◌<◌, ltb, length, drop, get_or}
+use Rattle.std.specs.Prelude.{◌≡◌, ◌≢◌, List, [], ◌∷◌, ℕ, ◌+◌, ◌-◌, ◌*◌, ◌≤◌, ◌<◌, ltb, length, drop, get_or}
 use Rattle.words.specs.Turn.{turned}
 use Rattle.words.specs.Tests.{pick}
 use Rattle.greedy.specs.Reading.{face_of}
@@ -38,9 +38,24 @@ module _ (ks : List (List ℕ)) where
   abbrev pub SortedFaces : List ℕ → Type 0
   SortedFaces sorted = SortedBelow (2 * length ks) sorted
 
+  -- what a type keeps of them: no face is missing
+  pub record AllSorted (sorted : List ℕ) : Type 0 where
+    pub room : 2 * length ks ≤ length sorted
+    pub within : (i : ℕ) → i < 2 * length ks → get_or sorted i 0 < 2 * length ks
+    pub each : (f : ℕ) → f < 2 * length ks → ((i : ℕ) → i < 2 * length ks → get_or sorted i 0 ≢ f) → ⊥
+    pub rising : (i j : ℕ) → i < j → j < 2 * length ks
+        → NotBefore (face_of turned ks (get_or sorted j 0)) (face_of turned ks (get_or sorted i 0))
+
   -- the side of the face at a place, seen from the words that begin with x
   abbrev pub side_at : List ℕ → List ℕ → ℕ → ℕ
   side_at faces x i = side_of (face_of turned ks (get_or faces i 0)) x
+
+-- The faces that begin with x, and all of these.
+pub record Begin (ks : List (List ℕ)) (x faces : List ℕ) : Type 0 where
+  pub within : (i : ℕ) → i < length faces → get_or faces i 0 < 2 * length ks
+  pub one : (i : ℕ) → i < length faces → side_at ks faces x i ≡ 1
+  pub each : (f : ℕ) → f < 2 * length ks → side_of (face_of turned ks f) x ≡ 1
+      → ((i : ℕ) → i < length faces → get_or faces i 0 ≢ f) → ⊥
 
 -- Of m places with sides s, those before `low` are before side k, and those from `high` on are not.
 pub record Narrowed (s : ℕ → ℕ) (k m low high : ℕ) : Type 0 where

@@ -1,6 +1,6 @@
 // Faces put in their places, one after the other.
 ghost use Rattle.std.specs.Prelude.{◌+◌, ◌*◌, ◌≤◌, ◌<◌, length};
-ghost use Rattle.sorting.specs.Sorted.{SortedBelow, SortedFaces, Inserted};
+ghost use Rattle.sorting.specs.Sorted.{SortedBelow, Inserted};
 
 use crate::ranges::first_place;
 use parts::Parts;
@@ -16,21 +16,11 @@ fn insert(sorted: &mut [usize], p: usize, m: usize, f: usize)
 }
 
 // Face f goes in before the first sorted face that is not before it.
-fn sort_in(parts: &Parts<'_>, f: usize, sorted: &mut [usize])
+pub(crate) fn sort_in(parts: &Parts<'_>, f: usize, sorted: &mut [usize])
     requires { (f < 2 * length parts.now) × (f < length sorted.old) × SortedBelow parts.now f sorted.old }
     ensures { SortedBelow parts.now (f + 1) sorted.new }
 {
     let face = parts.face(f);
     let p = first_place(parts, &sorted[..f], face, face.len(), Ordering::Equal);
     insert(sorted, p, f, f);
-}
-
-// All faces of the parts, sorted.
-pub fn sort_faces(parts: &Parts<'_>, sorted: &mut [usize])
-    requires { 256 ≤ length sorted.old }
-    ensures { SortedFaces parts.now sorted.new }
-{
-    for f in 0..2 * parts.len() {
-        sort_in(parts, f, sorted);
-    }
 }

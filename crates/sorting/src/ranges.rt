@@ -10,7 +10,7 @@ use parts::Parts;
 use std::cmp::Ordering;
 
 // The first of the sorted faces that is on side `least` of the last o bands of d, or on a later one.
-pub fn first_place(
+pub(crate) fn first_place(
     parts: &Parts<'_>,
     sorted: &[usize],
     d: Form<'_>,
@@ -36,7 +36,7 @@ pub fn first_place(
 
 // How many of the sorted faces begin with the last o bands of d, where none is before those that do. Mostly none does, as the
 // first shows.
-pub fn range_end(parts: &Parts<'_>, sorted: &[usize], d: Form<'_>, o: usize) -> usize
+pub(crate) fn range_end(parts: &Parts<'_>, sorted: &[usize], d: Form<'_>, o: usize) -> usize
     requires { Rising parts.now sorted.now × (o ≤ length d.word.now) }
     ensures { Narrowed (side_at parts.now sorted.now (ending o (bands_of d.entry))) 2 (length sorted.now) result result }
 {

@@ -14,40 +14,51 @@ pub struct Sums {
     pub saved: usize,
 }
 
-// What face number i of an order shares with the one before it; nothing for the first.
-fn skip_at(parts: &Parts<'_>, order: &[usize], i: usize) -> usize
-    requires { InOrder parts.now order.now × (i < length order.now) }
-    ensures { result ≡ skip_at_lem turned parts.now order.now i }
-{
-    if i == 0 {
-        return 0;
-    }
-    matching::overlap(parts.face(order[i - 1]), parts.face(order[i]))
+// An order of faces of some codes.
+#[derive(Clone, Copy)]
+pub struct Order<'a> {
+    pub parts: &'a Parts<'a>,
+    pub faces: &'a [usize],
+    pub ghost in_order: { InOrder parts.now faces.now },
 }
 
-// The sums along an order: what each face adds, and what it shares, which goes into a row of its own.
-pub fn measure(parts: &Parts<'_>, order: &[usize], skips: &mut [usize]) -> Sums
-    requires { InOrder parts.now order.now × (length order.now ≤ length skips.old) }
-    ensures { Measures parts.now order.now result.bands result.saved × Skips parts.now order.now skips.new }
-{
-    let mut bands = 0;
-    let mut saved = 0;
-    for (i, f) in order.iter().enumerate() {
-        let o = skip_at(parts, order, i);
-        skips[i] = o;
-        bands += parts.face(*f).len() - o;
-        saved += o;
+impl Order<'_> {
+    // What face number i shares with the one before it; nothing for the first.
+    fn skip_at(&self, i: usize) -> usize
+        requires { i < length self.now.faces.now }
+        ensures { result ≡ skip_at_lem turned self.now.parts.now self.now.faces.now i }
+    {
+        if i == 0 {
+            return 0;
+        }
+        let before = self.parts.face(self.faces[i - 1]);
+        matching::overlap(before, self.parts.face(self.faces[i]))
     }
-    Sums { bands, saved }
-}
 
-// The ribbon at the beginning of a row that has room for it.
-pub fn write_bands(parts: &Parts<'_>, order: &[usize], skips: &[usize], ribbon: &mut [u8])
-    requires { InOrder parts.now order.now × Skips parts.now order.now skips.now × (length (read_piece turned parts.now order.now) ≤ length ribbon.old) }
-    ensures { ribbon.new ≡ over (read_piece turned parts.now order.now) ribbon.old }
-{
-    let mut at = 0;
-    for (i, f) in order.iter().enumerate() {
-        at = matching::put_way(parts.face(*f), skips[i], ribbon, at);
+    // The sums along the order: what each face adds, and what it shares, which goes into a row of its own.
+    pub fn measure(&self, skips: &mut [usize]) -> Sums
+        requires { length self.now.faces.now ≤ length skips.old }
+        ensures { Measures self.now.parts.now self.now.faces.now result.bands result.saved × Skips self.now.parts.now self.now.faces.now skips.new }
+    {
+        let mut bands = 0;
+        let mut saved = 0;
+        for (i, f) in self.faces.iter().enumerate() {
+            let o = self.skip_at(i);
+            skips[i] = o;
+            bands += self.parts.face(*f).len() - o;
+            saved += o;
+        }
+        Sums { bands, saved }
+    }
+
+    // The ribbon at the beginning of a row that has room for it.
+    pub fn write_bands(&self, skips: &[usize], ribbon: &mut [u8])
+        requires { Skips self.now.parts.now self.now.faces.now skips.now × (length (read_piece turned self.now.parts.now self.now.faces.now) ≤ length ribbon.old) }
+        ensures { ribbon.new ≡ over (read_piece turned self.now.parts.now self.now.faces.now) ribbon.old }
+    {
+        let mut at = 0;
+        for (i, f) in self.faces.iter().enumerate() {
+            at = matching::put_way(self.parts.face(*f), skips[i], ribbon, at);
+        }
     }
 }

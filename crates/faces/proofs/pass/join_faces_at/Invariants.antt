@@ -7,4 +7,4 @@ use Rattle.greedy.specs.Reading.{shared}
 use Rattle.faces.proofs.pass.join_faces_at.Given as goal
 
 abbrev pub invariant-loop-a : goal.invariant-loop-a
-invariant-loop-a l = PassedRow (length l.parts) (shared turned l.parts) (row_of l.after) l.o l.a
+invariant-loop-a l = PassedRow (length l.sorted) (shared turned l.sorted) (row_of l.after) l.o l.a

@@ -6,22 +6,22 @@ use Rattle.faces.proofs.Passing.{none_follows, one_follows}
 use Rattle.faces.proofs.pass.join_from.Goals as goal
 
 pub returns-then-is_some : goal.returns-then-is_some
-returns-then-is_some c = row_used c.requires.2 c.requires.1 (row_taken c.args.after.now c.args.a c.if-is_some.ensures)
+returns-then-is_some c = row_used c.requires.1 c.requires.0 (row_taken c.args.after.now c.args.a c.if-is_some.ensures)
 
 pub returns-in-Some : goal.returns-in-Some
 returns-in-Some c =
     let p = c.requires in
-    one_follows p.2 p.1 (row_open c.args.after.now c.args.a c.if-is_some.ensures)
+    one_follows p.1 p.0 (row_open c.args.after.now c.args.a c.if-is_some.ensures)
     c.mirror_of.ensures.0
-    (rw c.len.ensures.count at c.end_from.ensures)
+    (rw (c.len.ensures.count, c.parts.ensures) at c.end_from.ensures)
     c.mirror_of-head.ensures.0
     _ c.in-Some.ensures c.make_join.ensures
 
 pub returns-in_default : goal.returns-in_default
 returns-in_default c =
     let p = c.requires in
-    none_follows p.2 p.1 (row_open c.args.after.now c.args.a c.if-is_some.ensures)
+    none_follows p.1 p.0 (row_open c.args.after.now c.args.a c.if-is_some.ensures)
     c.mirror_of.ensures.0
-    (rw c.len.ensures.count at c.end_from.ensures)
+    (rw (c.len.ensures.count, c.parts.ensures) at c.end_from.ensures)
     c.mirror_of-head.ensures.0
     c.in_default.ensures

@@ -5,7 +5,7 @@ use Rattle.faces.proofs.Passing.{pass_begun}
 use Rattle.faces.proofs.pass.run_pass.Goals as goal
 
 pub loop-o-init : goal.loop-o-init
-loop-o-init c = pass_begun _ c.requires.0 c.requires.2
+loop-o-init c = pass_begun _ c.requires.0 c.requires.1
 
 pub returns : goal.returns
 returns c =

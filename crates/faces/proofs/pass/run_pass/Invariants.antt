@@ -7,4 +7,4 @@ use Rattle.greedy.specs.Reading.{shared}
 use Rattle.faces.proofs.pass.run_pass.Given as goal
 
 abbrev pub invariant-loop-o : goal.invariant-loop-o
-invariant-loop-o l = PassedRow (length l.parts) (shared turned l.parts) (row_of l.after) l.o (2 * length l.parts)
+invariant-loop-o l = PassedRow (length l.sorted) (shared turned l.sorted) (row_of l.after) l.o (2 * length l.sorted)

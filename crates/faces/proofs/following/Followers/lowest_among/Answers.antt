@@ -1,7 +1,7 @@
--- `lowest_among`: one face after another is passed.
+-- `Followers::lowest_among`: one face after another is passed.
 use Rattle.std.proofs.Common.{◌≡◌, length, arith}
 use Rattle.faces.proofs.Picking.{lowest_none, lowest_next}
-use Rattle.faces.proofs.following.lowest_among.Goals as goal
+use Rattle.faces.proofs.following.Followers.lowest_among.Goals as goal
 
 pub loop-b-init : goal.loop-b-init
 loop-b-init c = lowest_none _

@@ -1,7 +1,0 @@
--- `lowest_among`. The invariant: `best` is the lowest of those passed.
-use Rattle.joining.specs.Joins.{row_of}
-use Rattle.faces.specs.Passing.{Lowest, Among, MayFollow}
-use Rattle.faces.proofs.following.lowest_among.Given as goal
-
-abbrev pub invariant-loop-b : goal.invariant-loop-b
-invariant-loop-b l = Lowest (Among l.faces l.b-index (MayFollow (row_of l.after) l.head l.other)) l.best
