@@ -2,7 +2,7 @@
 -- ends.
 use mathlib.Core.Path.{◌≡◌, sym, ap, ◌∙◌}
 use mathlib.Core.Logic.{◌≢◌}
-use mathlib.Core.Bool.{Bool}
+use mathlib.Core.Bool.{Bool, false}
 use mathlib.Core.List.{List, [], ◌++◌}
 use Prim.Native.Nat.{ℕ, zero, suc, ◌+◌, ◌≤◌, ◌<◌}
 use native.Mathlib.Omega.{arith}
@@ -11,6 +11,7 @@ use lib.ListN.{length, take, drop, set, length-drop, length-set}
 use lib.Seq.{length-take-le}
 use borrow.Author.Tests.{eq-eqb, ne_eqb, le-ltb}
 use Rattle.words.specs.Tests.{pick}
+use Rattle.words.proofs.Deciding.{is_eq, fails}
 use Rattle.lists.specs.Refusals.{empty_list_number}
 use Rattle.lists.specs.Runs.{codes_in}
 use Rattle.grammar.specs.Files.{Orders, orders, bad, add}
@@ -97,12 +98,15 @@ module _ {x : Orders} {rest bands ls names sizes : List ℕ} {count bmark nmark 
       → number_told r ≡ row_fault (entry_fault_lem g.ns) (first_row rest)
   is_fault h = h.fault ∙ ap (λ ns. row_fault (entry_fault_lem ns) (first_row rest)) (filed_words g.names_filed)
 
-  module _ {names' bands' : List ℕ} (left : length rest ≢ 0) where
+  left : false ≡ eqb (length rest) 0 → length rest ≢ 0
+  left more = fails (is_eq (length rest) 0) (sym more)
+
+  module _ (more : false ≡ eqb (length rest) 0) {names' bands' : List ℕ} where
     pub bad_entry : {f : Fault} → ChecksRow rest (entry_fault_lem so_far) names' bands' (Err f)
         → x ≡ bad (number_of f) (2 + count)
     bad_entry {f} h =
         sym g.goes
-        ∙ (rows_fault g.fuel (2 + count) g.ns g.cs rest left (λ z. absurd (omega (arith, is_fault h ∙ z, some_number f)))
+        ∙ (rows_fault g.fuel (2 + count) g.ns g.cs rest (left more) (λ z. absurd (omega (arith, is_fault h ∙ z, some_number f)))
         ∙ ap (λ n. bad n (2 + count)) (sym (is_fault h)))
 
     module _ {r : RowRead} (h : ChecksRow rest (entry_fault_lem so_far) names' bands' (Ok r)) where
@@ -139,10 +143,11 @@ module _ {x : Orders} {rest bands ls names sizes : List ℕ} {count bmark nmark 
           goes_on = by g.fuel g.goes g.enough
             where
               by : (f : ℕ) → rows_from (suc f) (2 + count) g.ns g.cs rest ≡ x → length rest ≤ f → Onward
-              by zero y l = absurd (left (omega arith))
+              by zero y l = absurd (left more (omega arith))
               by (suc f) y l =
                   let k : 2 + (count + 1) ≡ suc (2 + count) = omega arith in
-                  let on = rows_on (suc f) (2 + count) g.ns g.cs rest left (sym (is_fault h)) in
+                  let ne = left more in
+                  let on = rows_on (suc f) (2 + count) g.ns g.cs rest ne (sym (is_fault h)) in
                   let few : count < 128 = small.2 in
                   let d = length-drop r.size rest in
                   let ln = filed_length g.names_filed names' fn name_part in

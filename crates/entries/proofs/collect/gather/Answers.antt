@@ -1,15 +1,13 @@
 -- `gather` meets its contract: the heading and each row are a refusal, or one more entry is gathered.
-use mathlib.Core.Path.{◌≡◌, sym, ◌∙◌}
+use mathlib.Core.Path.{◌≡◌, ◌∙◌}
 use Prim.Native.Nat.{◌+◌}
 use native.Mathlib.Omega.{arith}
-use lib.ListN.{length, length-set}
 use Rattle.std.proofs.Common.{rules}
 use Rattle.std.proofs.lemmas.Result.{err_from_is_err_and}
 use Rattle.entries.specs.Gathering.{Roomy}
-use Rattle.words.proofs.Deciding.{is_eq, fails}
 use Rattle.lists.proofs.Runs.{to_end}
 use Rattle.entries.proofs.Mapped.{ok_before, err_before}
-use Rattle.entries.proofs.Filing.{filed_run, filed_length}
+use Rattle.entries.proofs.Filing.{filed_run}
 use Rattle.entries.proofs.Gathering.{begins, bad_entry, small, goes_on}
 use Rattle.entries.proofs.collect.gather.Goals as goal
 
@@ -24,16 +22,16 @@ loop-rest-init c =
       name_run = h.auto.names ∙ p.2.name_run;
       name_lengths = p.2.name_lengths;
     } in
-    (rw to_end (begins p.1 p.0 m (rw e at h.ensures)), m)
+    rw to_end (begins p.1 p.0 m (rw e at h.ensures))
 
 pub new-before-requires : goal.new-before-requires
-new-before-requires c = rw c.split_at_mut-bytes.ensures.front (filed_run c.loop-rest.invariant.0.names_filed)
+new-before-requires c = rw c.split_at_mut-bytes.ensures.front (filed_run c.loop-rest.invariant.names_filed)
 
 pub new-requires : goal.new-requires
-new-requires c = filed_run c.loop-rest.invariant.0.codes_filed
+new-requires c = filed_run c.loop-rest.invariant.codes_filed
 
 pub new-requires-2 : goal.new-requires-2
-new-requires-2 c = filed_run c.loop-rest.invariant.0.names_filed
+new-requires-2 c = filed_run c.loop-rest.invariant.names_filed
 
 pub returns-in_err-row : goal.returns-in_err-row
 returns-in_err-row c =
@@ -41,24 +39,21 @@ returns-in_err-row c =
     let e = err_before _ c.check_entry.result c.map_err-in-loop-rest.ensures.cases c.in_err-row.was in
     let q : c.in_err-row.field-0.0 ≡ record { fault = e.0; row = 2 + c.loop-rest.codes } = search rules in
     let h = rw (e.1, c.new-before.ensures.0, c.new-before.ensures.1, c.split_at_mut-bytes.ensures.front) at c.check_entry.ensures in
-    let left = fails (is_eq (length c.loop-rest.rest.now) 0) (sym c.loop-rest-test.ensures) in
-    rw (p.1, p.2, q) (bad_entry c.loop-rest.invariant.0 left h)
+    rw (p.1, p.2, q) (bad_entry c.loop-rest.invariant c.loop-rest-test.ensures h)
 
 pub bounds-lengths-codes : goal.bounds-lengths-codes
 bounds-lengths-codes c =
     let e = ok_before _ c.check_entry.result c.map_err-in-loop-rest.ensures.cases c.in_ok-row.was in
     let h = rw (e, c.new-before.ensures.0, c.new-before.ensures.1, c.split_at_mut-bytes.ensures.front) at c.check_entry.ensures in
-    let g = c.loop-rest.invariant.0 in
-    let left = fails (is_eq (length c.loop-rest.rest.now) 0) (sym c.loop-rest-test.ensures) in
-    omega (arith, small g left h (omega arith) (omega arith), g.lengths_room)
+    let g = c.loop-rest.invariant in
+    omega (arith, small g c.loop-rest-test.ensures h (omega arith) (omega arith), g.lengths_room)
 
 pub bounds-sizes-codes : goal.bounds-sizes-codes
 bounds-sizes-codes c =
     let e = ok_before _ c.check_entry.result c.map_err-in-loop-rest.ensures.cases c.in_ok-row.was in
     let h = rw (e, c.new-before.ensures.0, c.new-before.ensures.1, c.split_at_mut-bytes.ensures.front) at c.check_entry.ensures in
-    let g = c.loop-rest.invariant.0 in
-    let left = fails (is_eq (length c.loop-rest.rest.now) 0) (sym c.loop-rest-test.ensures) in
-    omega (arith, small g left h (omega arith) (omega arith), g.sizes_room)
+    let g = c.loop-rest.invariant in
+    omega (arith, small g c.loop-rest-test.ensures h (omega arith) (omega arith), g.sizes_room)
 
 pub loop-rest-preserved : goal.loop-rest-preserved
 loop-rest-preserved c =
@@ -66,14 +61,5 @@ loop-rest-preserved c =
     let l = c.split_at_mut-bytes.ensures in
     let k = c.split_at_mut-next_code.ensures in
     let h = rw (e, c.new-before.ensures.0, c.new-before.ensures.1, l.front) at c.check_entry.ensures in
-    let g = c.loop-rest.invariant.0 in
-    let m = c.loop-rest.invariant.1 in
-    let left = fails (is_eq (length c.loop-rest.rest.now) 0) (sym c.loop-rest-test.ensures) in (
-      rw to_end (goes_on g left h (omega arith) (omega arith) l.front k.front),
-      record {
-        code_run = filed_length g.codes_filed _ k.front (omega arith) ∙ m.code_run;
-        code_lengths = simp length-set m.code_lengths;
-        name_run = filed_length g.names_filed _ l.front (omega arith) ∙ m.name_run;
-        name_lengths = simp length-set m.name_lengths;
-      },
-    )
+    let g = c.loop-rest.invariant in
+    rw to_end (goes_on g c.loop-rest-test.ensures h (omega arith) (omega arith) l.front k.front)
