@@ -2,7 +2,8 @@
 -- table of the calls has the same lists. 14 is in none of them: the number is retired (M-112) and stays unused.
 use Rattle.std.specs.Prelude.{List, [], ◌∷◌, ◌++◌, ℕ, take, Err}
 use Rattle.words.specs.Lists.{In}
-use Rattle.lists.specs.Refusals.{long_file_number, broken_row_number, wrong_width_number, wrong_heading_number, bad_name_number, no_bands_number, long_code_number, unknown_colour_number}
+use Rattle.lists.specs.Refusals.{long_file_number, broken_row_number, wrong_width_number, wrong_heading_number}
+use Rattle.lists.specs.Refusals.{bad_name_number, no_bands_number, long_code_number, unknown_colour_number}
 use Rattle.lists.specs.Refusals.{name_taken_number, list_full_number, empty_list_number, false_list_number, short_buffer_number, long_ribbon_number}
 use Rattle.lists.specs.Answers.{number_of}
 use Rattle.lists.specs.declared.numbers.Refusal.{Refusal}
@@ -52,8 +53,8 @@ pub data Refuses : Call → ℕ → Type 0 where
 -- the numbers of an order list
 abbrev pub list_numbers : List ℕ
 list_numbers =
-    long_file_number ∷ broken_row_number ∷ wrong_width_number ∷ wrong_heading_number ∷ bad_name_number ∷ no_bands_number ∷ long_code_number ∷ unknown_colour_number ∷ name_taken_number
-    ∷ list_full_number ∷ empty_list_number ∷ []
+    long_file_number ∷ broken_row_number ∷ wrong_width_number ∷ wrong_heading_number ∷ bad_name_number ∷ no_bands_number
+    ∷ long_code_number ∷ unknown_colour_number ∷ name_taken_number ∷ list_full_number ∷ empty_list_number ∷ []
 
 -- and of each call
 abbrev pub numbers_of : Call → List ℕ
