@@ -31,7 +31,7 @@ use Rattle.places.specs.declared.Place.{Place}
 use Rattle.checking.proofs.Check.{stands_at}
 use Rattle.sheet_rows.specs.Shows.{ShowsCodes}
 use Rattle.sheet_rows.specs.Placed.{RowsThere, placed_sheet}
-use Rattle.sheet_rows.specs.declared.Shown.{Shown}
+use Rattle.sheet_rows.specs.declared.pieces.Shown.{Shown}
 use Rattle.sheets.specs.Answers.{SheetAnswer, SheetOutcome, refused, written, SheetsInto, sheet_for, sheet_outcome}
 use Rattle.sheet_rows.proofs.Placed.{placed_is_sheet, rows_there}
 use Rattle.sheets.proofs.Room.{sheet_at_most}

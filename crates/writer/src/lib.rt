@@ -5,9 +5,9 @@ ghost use Rattle.writer.specs.Calls.{Ready, Gives, laid_outcome, WritesSheet};
 
 use layout::lay_ribbon;
 use lists::{Fault, Refusal};
-use pages::put_sheet;
+use pages::{put_sheet, sheet_size};
 use places::find_places;
-use sheet_rows::{sheet_size, show_codes};
+use sheet_rows::{Rows, show_codes};
 
 // The sheet's length, and what its ribbon saves.
 #[derive(Clone, Copy)]
@@ -32,11 +32,18 @@ fn write_laid(
     let sought = find_places(bands, lengths, ribbon);
     let records = sought.records;
     let shown = show_codes(bands, lengths, ribbon, records);
-    let size = sheet_size(names, sizes, lengths, shown, ribbon);
+    let rows = Rows {
+        names,
+        sizes,
+        lengths,
+        shown: &shown,
+        ribbon,
+    };
+    let size = sheet_size(&rows);
     if out.len() < size {
         return Err(Fault::ShortBuffer.into());
     }
-    put_sheet(names, sizes, lengths, shown, ribbon, out);
+    put_sheet(&rows, out);
     Ok(Wrote {
         bytes: size as u32,
         saved,

@@ -1,7 +1,9 @@
 -- What a writer is once a text is written at its mark.
 use Rattle.std.specs.Prelude.{List, ◌++◌, ℕ, ◌+◌, length, take, drop}
+use Rattle.std.specs.Borrow.{MutBor}
 use denote.Ref.{at_last}
-use Rattle.pages.specs.declared.page.Writer.{Writer}
+use Rattle.fields.specs.declared.writer.Writer.{Writer}
+use Rattle.fields.specs.Sinks.{Kind}
 
 -- a row once a text stands on it from a place on; what was before and behind it is kept
 abbrev pub put_at : List ℕ → ℕ → List ℕ → List ℕ
@@ -11,3 +13,10 @@ put_at row at s = take at row ++ (s ++ drop (at + length s) row)
 -- and its ghost name with it, at the list l.
 abbrev pub filled : Writer → List ℕ → Writer
 filled w s = record { out = at_last w.out (put_at w.out.now w.mark s); mark = w.mark + length s }
+
+-- nothing is written yet
+abbrev pub begun : MutBor (List ℕ) → Writer
+begun out = record { out = out; mark = 0 }
+
+abbrev pub writing : Kind Writer
+writing = record { taken = λ w. w.mark; most = λ w. length w.out.now; filled = filled }
