@@ -24,10 +24,13 @@ module _ (run ls name_run name_ls before : List ℕ) {after : List ℕ} {r : Res
   told : {x : Result Wrote Refusal} → r ≡ x → WritesSheet run ls name_run name_ls before after x
   told e = subst (WritesSheet run ls name_run name_ls before after) e p
 
+  pub sheet_never_refused : {x : Refusal} → r ≡ Err x → ⊥
+  sheet_never_refused e =
+      let f = (told e).answer ∙ accepts run ls name_run name_ls ok named before room in cc
+
   not_refused : (x : Result Wrote Refusal) → r ≡ x → IsOk x
   not_refused (Ok wrote) e = search rules
-  not_refused (Err refusal) e =
-      let f = (told e).answer ∙ accepts run ls name_run name_ls ok named before room in cc
+  not_refused (Err refusal) e = absurd (sheet_never_refused e)
 
   pub sheet_accepted : IsOk r
   sheet_accepted = not_refused r refl
