@@ -7,7 +7,8 @@ ghost use Rattle.pages.specs.Pages.{PutsSheet};
 use fields::{Counter, Sink, Writer};
 use sheet_rows::{Rows, put_heading};
 
-// The rows of all codes are put into a sink, one after the other.
+// The rows of all codes are put into a sink, one after the other: by number, since name, length and place of a code lie side by
+// side.
 fn put_rows<S: Sink>(rows: &Rows, sink: &mut S)
     requires { Fits S.kind sink.old (all_rows rows.now) }
     ensures { Puts S.kind sink.old (all_rows rows.now) sink.new }

@@ -21,7 +21,8 @@ fn show_code(bands: &[u8], at: usize, size: usize, ribbon: &[u8], way: Way) -> S
     shown
 }
 
-// What is shown of each code of a fit list, in list order, by the records of their places.
+// What is shown of each code of a fit list, in list order, by the records of their places: by number, since both rows are longer
+// than the list.
 pub fn show_codes(
     bands: &[u8],
     lengths: &[u16],
