@@ -3,11 +3,11 @@
 use mathlib.Core.Path.{◌≡◌, sym, ap, ◌∙◌}
 use mathlib.Core.Logic.{◌⊎◌, inl, inr}
 use mathlib.Core.List.{List, ◌∷◌}
-use Prim.Native.Nat.{ℕ, zero, suc, ◌+◌, ◌-◌, ◌*◌, ◌≤◌, ◌<◌}
+use Prim.Native.Nat.{ℕ, zero, suc, ◌+◌, ◌-◌, ◌≤◌, ◌<◌}
 use native.Mathlib.Omega.{arith}
 use native.Mathlib.Decide.{ℕ_discrete, dec_le}
-use lib.ListN.{length, take, drop, get_or, length-drop}
-use lib.Seq.{length-take-le, get_or-drop}
+use lib.ListN.{length, take, get_or}
+use lib.Seq.{length-take-le}
 use Rattle.std.proofs.Common.{true, false, Ordering, is_lt, nat_cmp, get_or-take}
 use Rattle.std.specs.Ordering.{ordering_index}
 use Rattle.std.proofs.lemmas.Bool.Decides.{nat_tests}
@@ -21,24 +21,6 @@ pub narrow_none : {s : ℕ → ℕ} {k m : ℕ} → Narrowed s k m 0 m
 narrow_none =
     record { ordered = omega arith; bound = omega arith; below = λ i l. absurd (omega arith); above = λ i l h. absurd (omega arith) }
 
--- what is before side 1 is before side 2
-pub narrow_on : {s : ℕ → ℕ} {m low : ℕ} → Narrowed s 1 m low low → Narrowed s 2 m low m
-narrow_on w =
-    record {
-      ordered = w.bound;
-      bound = omega arith;
-      below = λ i l. omega (arith, w.below i l);
-      above = λ i l h. absurd (omega arith);
-    }
-
--- the first place on side 1 is not after the first on side 2
-pub narrow_order : {s : ℕ → ℕ} {m low high : ℕ} → Narrowed s 1 m low low → Narrowed s 2 m high high → low ≤ high
-narrow_order {s} {m} {low} {high} w v = go (dec_le low high)
-  where
-    go : Dec (low ≤ high) → low ≤ high
-    go (yes l) = l
-    go (no d) = absurd (omega (arith, w.below high (omega arith), v.above high (omega arith) (omega (arith, w.bound))))
-
 -- sides compared
 pub side_less : (a b : Ordering) → is_lt (nat_cmp (ordering_index a) (ordering_index b)) ≡ true → ordering_index a < ordering_index b
 side_less a b e = grind (arith, nat_tests)
@@ -46,27 +28,7 @@ side_less a b e = grind (arith, nat_tests)
 pub side_not_less : (a b : Ordering) → is_lt (nat_cmp (ordering_index a) (ordering_index b)) ≡ false → ordering_index b ≤ ordering_index a
 side_not_less a b e = grind (arith, nat_tests)
 
--- A part of the sorted faces is sorted.
-front : (m : ℕ) (faces : List ℕ) (i : ℕ) → i < m → get_or (take m faces) i 0 ≡ get_or faces i 0
-front m faces i l = get_or-take m faces i 0 l
-
-pub front_rises : {ks : List (List ℕ)} {m : ℕ} {sorted : List ℕ} → SortedBelow ks m sorted → m ≤ 2 * length ks
-    → Rising ks (take m sorted)
-front_rises {m = m} {sorted} t h =
-    let e = length-take-le m sorted t.room in
-    record {
-      within = λ i l. omega (arith, front m sorted i (omega arith), t.within i (omega arith));
-      rising = λ i j l g. rw (front m sorted i (omega arith), front m sorted j (omega arith)) (t.rising i j l (omega arith));
-    }
-
-pub back_rises : {ks : List (List ℕ)} (n : ℕ) (faces : List ℕ) → Rising ks faces → Rising ks (drop n faces)
-back_rises n faces t =
-    let e = length-drop n faces in
-    record {
-      within = λ i l. omega (arith, get_or-drop n faces i 0, t.within (n + i) (omega arith));
-      rising = λ i j l g. rw (get_or-drop n faces i 0, get_or-drop n faces j 0) (t.rising (n + i) (n + j) (omega arith) (omega arith));
-    }
-
+-- what is behind the first of the sorted faces is sorted
 pub others_rise : {ks : List (List ℕ)} {f : ℕ} {faces : List ℕ} → Rising ks (f ∷ faces) → Rising ks faces
 others_rise t =
     record {
@@ -74,7 +36,7 @@ others_rise t =
       rising = λ i j l g. t.rising (suc i) (suc j) (omega arith) (omega arith);
     }
 
--- and what is found in it is found in the whole
+-- what is found in a part of the sorted faces is found in the whole
 pub narrowed_front : (ks : List (List ℕ)) (sorted x : List ℕ) {k m p : ℕ} → m ≤ length sorted
     → Narrowed (side_at ks (take m sorted) x) k (length (take m sorted)) p p → Narrowed (side_at ks sorted x) k m p p
 narrowed_front ks sorted x {m = m} h w =
@@ -82,8 +44,8 @@ narrowed_front ks sorted x {m = m} h w =
     record {
       ordered = w.ordered;
       bound = omega (arith, w.bound);
-      below = λ i l. rw (front m sorted i (omega (arith, w.bound))) at (w.below i l);
-      above = λ i l g. rw (front m sorted i g) at (w.above i l (omega arith));
+      below = λ i l. rw (get_or-take m sorted i 0 (omega (arith, w.bound))) at (w.below i l);
+      above = λ i l g. rw (get_or-take m sorted i 0 g) at (w.above i l (omega arith));
     }
 
 pub narrowed_behind : (ks : List (List ℕ)) (f : ℕ) (faces x : List ℕ) {k r : ℕ} → side_of (face_of turned ks f) x < k
@@ -128,16 +90,6 @@ module _ {ks : List (List ℕ)} {faces : List ℕ} (q : Rising ks faces) (x : Li
           below = w.below;
           above = λ i g f. omega (arith, rise mid i g f);
         }
-
--- nothing is sorted at first
-pub sorted_none : {ks : List (List ℕ)} {sorted : List ℕ} → SortedBelow ks 0 sorted
-sorted_none =
-    record {
-      room = omega arith;
-      within = λ i h. absurd (omega arith);
-      each = λ f h. absurd (omega arith);
-      rising = λ i j l h. absurd (omega arith);
-    }
 
 -- Face f is put in at p, where the faces before are before it and those from there on are not.
 module _ {ks : List (List ℕ)} {old new : List ℕ} {f o p : ℕ} (t : SortedBelow ks f old)

@@ -10,7 +10,7 @@ use lib.Seq.{length-take-le, get_or-drop, take_all}
 use Rattle.std.proofs.Common.{get_or-take}
 use Rattle.words.specs.Turn.{turned}
 use Rattle.greedy.specs.Reading.{face_of}
-use Rattle.sorting.specs.Sorted.{side_of, side_at, Rising, SortedFaces, AllSorted, Begin, Narrowed}
+use Rattle.sorting.specs.Sorted.{side_of, side_at, SortedFaces, AllSorted, Begin, Narrowed}
 
 pub all_sorted : {ks : List (List ℕ)} {sorted : List ℕ} → SortedFaces ks sorted → AllSorted ks sorted
 all_sorted t =
@@ -40,15 +40,6 @@ module _ (ks : List (List ℕ)) (sorted x : List ℕ) (p e : ℕ) (t : AllSorted
 
   in_all : (i : ℕ) → i < 2 * length ks → get_or all i 0 ≡ get_or sorted i 0
   in_all i l = get_or-take (2 * length ks) sorted i 0 l
-
-  pub all_rise : Rising ks all
-  all_rise =
-      record {
-        within = λ i l. omega (arith, size, in_all i (omega (arith, size)), t.within i (omega (arith, size)));
-        rising = λ i j l g.
-            let h : j < 2 * length ks = omega (arith, size) in
-            rw (in_all i (omega arith), in_all j h) (t.rising i j l h);
-      }
 
   module _ (l : Narrowed (side_at ks all x) 1 (length all) p p) (h : Narrowed (side_at ks behind x) 2 (length behind) e e) where
     range_size : length range ≡ e

@@ -1,17 +1,18 @@
 -- `Parts::kept`: code i goes behind those that are kept, or it is dropped.
-use Rattle.std.proofs.Common.{arith}
-use Rattle.std.proofs.lemmas.Grind.{common_steps}
-use Rattle.words.specs.Turn.{turned}
-use Rattle.words.specs.Stand.{some_way}
-use Rattle.greedy.specs.Dropping.{is_dropped_lem}
-use Rattle.parts.proofs.Sieving.{without_drop, without_keep}
+use Rattle.std.proofs.Common.{sym, ◌∙◌, arith}
+use Rattle.parts.proofs.Sieving.{sieve_keep, sieve_drop, sieve_end}
 use Rattle.parts.proofs.cuts.Parts.kept.Goals as goal
 use Rattle.parts.proofs.cuts.Parts.kept.Goals.{then-not-is_dropped, else-not-is_dropped}
 
 pub loop-i-preserved : goal.loop-i-preserved
 loop-i-preserved c =
-    let p = is_dropped_lem (some_way turned) c.args.self.now in
+    let s = c.loop-i.invariant in
     elim c.if-not-is_dropped.branch [
-      | then-not-is_dropped w ↦ grind (arith, common_steps, without_keep p)
-      | else-not-is_dropped w ↦ grind (arith, common_steps, without_drop p)
+      | then-not-is_dropped w ↦ rw (w.kept-is, w.push.ensures, w.code.ensures.same)
+          (sieve_keep _ s (omega arith) (sym c.is_dropped.ensures ∙ w.if-not-is_dropped.true))
+      | else-not-is_dropped w ↦ rw w.kept-is
+          (sieve_drop _ s (omega arith) (sym c.is_dropped.ensures ∙ w.if-not-is_dropped.false))
     ]
+
+pub returns : goal.returns
+returns c = sieve_end _ c.loop-i.invariant (omega arith)
