@@ -35,10 +35,6 @@ pub record Counting (turn : List ℕ → List ℕ) (c s : List ℕ) (p e g t n :
 abbrev pub whole : List ℕ → ℕ → ℕ → ℕ
 whole c g t = from_bool (eqb g (length c) || eqb t (length c))
 
-pub one_at_most : (d : Bool) → from_bool d ≤ 1
-one_at_most true = omega arith
-one_at_most false = omega arith
-
 -- a word longer than the row stands nowhere
 pub counting_short : (turn : List ℕ → List ℕ) (c s : List ℕ) → length (turn c) ≡ length c → length s < length c
     → 0 ≡ count_of turn c s

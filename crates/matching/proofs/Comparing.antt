@@ -1,14 +1,14 @@
 -- Comparing the last k bands of one word with the first k of another, from the left: while all bands passed are alike,
 -- the test of what is left is the test of the whole.
 use mathlib.Core.Path.{◌≡◌, refl, sym, ap, ◌∙◌}
-use mathlib.Core.Bool.{true, false}
+use mathlib.Core.Bool.{false}
 use mathlib.Core.List.{List, [], ◌∷◌}
 use Prim.Native.Nat.{ℕ, suc, ◌+◌, ◌-◌, ◌≤◌, ◌<◌}
 use native.Mathlib.Nat.{add-zero}
 use native.Mathlib.Numerals.{add-one}
 use native.Mathlib.Omega.{arith}
 use borrow.Author.Tests.{eq-eqb, ne_eqb}
-use lib.ListN.{length, take, drop, get_or, length-append, drop_of_length-le}
+use lib.ListN.{length, take, drop, get_or, length-append}
 use lib.Seq.{drop-cons, get_or-take, length-take-le}
 use Rattle.words.specs.Tests.{same}
 use Rattle.words.specs.Overlap.{agrees}
@@ -59,12 +59,6 @@ module _ {a b : List ℕ} {n k : ℕ} where
         let o : n + i < length a = omega (arith, c.ending) in
         let p : i < length (take k b) = omega (arith, size) in
         c.left ∙ same_stop a (take k b) (n + i) i o p (λ h. e (h ∙ get_or-take k b i 0 l))
-
-    pub compared_all : k ≤ i → agrees a b k ≡ true
-    compared_all l =
-        let o : length a ≤ n + i = omega (arith, c.ending) in
-        let p : length (take k b) ≤ i = omega (arith, size) in
-        c.left ∙ rw (drop_of_length-le a o, drop_of_length-le (take k b) p)
 
 -- Whole words: all bands of the one are an ending of k bands.
 module _ (a b : List ℕ) (k : ℕ) (e : k ≡ length a) where

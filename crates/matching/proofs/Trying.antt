@@ -1,13 +1,13 @@
 -- Trying the lengths of an overlap from the longest down: while none that was tried agrees, the overlap is the longest of
 -- those left, and a pass along so many bands finds it.
-use Rattle.std.proofs.Common.{◌≡◌, sym, ◌∙◌, true, false, Bool, List, ℕ, suc, ◌+◌, ◌≤◌, length, min, add-one, arith, subst}
+use Rattle.std.proofs.Common.{◌≡◌, true, false, Bool, List, ℕ, ◌≤◌, length, min, arith}
 use Rattle.std.specs.Prelude.{leb}
 use Rattle.words.specs.Decides.{Decides, yes, no}
 use Rattle.words.specs.Tests.{pick}
-use Rattle.words.specs.Overlap.{agrees, overlap_from, overlap}
+use Rattle.words.specs.Overlap.{overlap_from, overlap}
 use Rattle.words.specs.Falling.{HeldAtEnd}
 use Rattle.words.proofs.Deciding.{is_le}
-use Rattle.words.proofs.Overlaps.{hit, miss, overlap_within}
+use Rattle.words.proofs.Overlaps.{overlap_within}
 use Rattle.words.proofs.Falling.{held_last}
 
 -- at most k bands are left to try
@@ -31,21 +31,6 @@ module _ (a b : List ℕ) where
         in_right = omega arith;
         left = rw (e, lesser (length a) (length b));
       }
-
-  module _ {k : ℕ} (o : ℕ) (t : Tried a b k) (e : k ≡ o + 1) where
-    now : Tried a b (suc o)
-    now = subst (λ (n : ℕ). Tried a b n) (e ∙ add-one o) t
-
-    pub tried_hit : agrees a b (o + 1) ≡ true → o + 1 ≡ overlap a b
-    tried_hit h = add-one o ∙ sym (hit a b o (rw add-one at h)) ∙ now.left
-
-    pub tried_miss : agrees a b (o + 1) ≡ false → Tried a b o
-    tried_miss h =
-        record {
-          in_left = omega (arith, t.in_left);
-          in_right = omega (arith, t.in_right);
-          left = sym (miss a b o (rw add-one at h)) ∙ now.left;
-        }
 
   pub tried_last : (k n r : ℕ) → Tried a b k → k ≤ n → n ≤ length a → HeldAtEnd a b n r → r ≡ overlap a b
   tried_last k n r t l m h =

@@ -1,7 +1,6 @@
 // Pattern matching: a pass along one word that holds the longest beginning of another that ends there, and falls back to
 // shorter beginnings where the next band does not follow (document 000, section 2.1).
-ghost use Rattle.std.specs.Prelude.{◌-◌, ◌≤◌, ◌<◌, length};
-ghost use Rattle.words.specs.Decides.{Decides};
+ghost use Rattle.std.specs.Prelude.{◌↔◌, IsTrue, ◌-◌, ◌≤◌, ◌<◌, length};
 ghost use Rattle.words.specs.Falling.{HeldAtEnd, FallBacks, Filled, Follows, Advances};
 ghost use Rattle.matching.specs.Forms.{bands_of};
 
@@ -11,8 +10,9 @@ use crate::Form;
 pub const MOST_HELD: usize = 64;
 
 // Band x follows the first k bands of b. Nothing follows all of it.
+#[tactic(auto, using(crate::proofs::Sizes::form_size))]
 fn follows(b: Form<'_>, k: usize, x: u8) -> bool
-    ensures { Decides (Follows (bands_of b.entry) k x) result }
+    ensures { IsTrue result ↔ Follows (bands_of b.entry) k x }
 {
     k < b.len() && b.band(k) == x
 }

@@ -59,7 +59,7 @@ pub fn window_at(s: &[u8], start: usize, n: usize) -> Window
 fn fits(least: usize, sums: Sums, w: Window) -> bool
     ensures { IsTrue result ↔ ((least ≤ w.start) × ((w.sum ≡ sums.given) ⊎ (w.sum ≡ sums.turned))) }
 {
-    // No `&&` and `||`: so written a row without the word took half as long again, since each start has both its sums compared.
+    // Not by `&&` and `||`, which compare both sums at each start: a row without the word took a fifth longer at the least.
     if w.start < least {
         return false;
     }

@@ -9,7 +9,7 @@ use Rattle.std.specs.Int.{from_bool}
 use Rattle.words.specs.Turn as w
 use Rattle.words.proofs.Ways.{way_size}
 use Rattle.words.proofs.Counting.{count_is}
-use Rattle.counting.proofs.Counting.{Counting, one_at_most, counting_short, counting_none, counting_in, counting_here}
+use Rattle.counting.proofs.Counting.{Counting, counting_short, counting_none, counting_in, counting_here}
 use Rattle.counting.proofs.Counting.{counting_all, counting_more}
 use Rattle.counting.proofs.counts.count_places.Goals as goal
 use Rattle.counting.proofs.counts.count_places.Goals.{After-moved-at}
@@ -59,11 +59,6 @@ go_on-requires c = rw (c.of-given.ensures, c.given.ensures) (held (goal.at.go_on
 pub go_on-requires-in-loop-pass : goal.go_on-requires-in-loop-pass
 go_on-requires-in-loop-pass c =
     rw (c.of-turned.ensures, c.turned.ensures, as_long) (held (goal.at.go_on-requires-in-loop-pass c).After-moved-at).1
-
-pub overflow_add-count : goal.overflow_add-count
-overflow_add-count c =
-    let h = here (goal.at.overflow_add-count c).After-moved-at in
-    omega (arith, h.2.few, h.1, one_at_most c.is_whole.result, c.from-once.ensures)
 
 pub loop-pass-smaller : goal.loop-pass-smaller
 loop-pass-smaller c =

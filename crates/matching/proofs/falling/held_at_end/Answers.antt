@@ -1,7 +1,7 @@
 -- `held_at_end`: each band of a leads from the match before it to the next.
 use Rattle.std.proofs.Common.{◌≡◌, length, refl, arith, rules}
 use Rattle.matching.specs.Forms.{bands_of}
-use Rattle.words.proofs.Ways.{way_size}
+use Rattle.matching.proofs.Sizes.{form_size}
 use Rattle.matching.proofs.Passing.{passed_none, passed_held, passed_row, passed_next, passed_more, follows_from}
 use Rattle.matching.proofs.falling.held_at_end.Goals as goal
 
@@ -11,7 +11,7 @@ loop-i-init c = (refl, passed_none _ _ _ (search rules) refl)
 pub go_on-m-requires : goal.go_on-m-requires
 go_on-m-requires c =
     let x = c.args in
-    (omega (arith, way_size x.b.turned x.b.word.now, passed_held c.loop-i.invariant.1), passed_row c.loop-i.invariant.1)
+    (omega (arith, form_size x.b, passed_held c.loop-i.invariant.1), passed_row c.loop-i.invariant.1)
 
 pub fill_to-filled-requires : goal.fill_to-filled-requires
 fill_to-filled-requires c =
@@ -20,7 +20,7 @@ fill_to-filled-requires c =
     let v = c.band in
     let f = follows_from x.a.turned x.a.word.now _ c.loop-i.i v.result (omega arith) v.ensures in
     let n = passed_next h f c.go_on-m.ensures in
-    (omega (arith, way_size x.b.turned x.b.word.now, n.1), omega (arith, n.0), n.2)
+    (omega (arith, form_size x.b, n.1), omega (arith, n.0), n.2)
 
 pub loop-i-preserved : goal.loop-i-preserved
 loop-i-preserved c =
@@ -34,5 +34,5 @@ pub returns : goal.returns
 returns c =
     let a = c.args.a in
     let e : c.loop-i.i ≡ c.args.k = omega arith in
-    let s : c.len.result ≡ length (bands_of a) = omega (arith, way_size a.turned a.word.now) in
+    let s : c.len.result ≡ length (bands_of a) = omega (arith, form_size a) in
     rw (← s) (rw e at c.loop-i.invariant.1.held)

@@ -3,7 +3,7 @@ use Rattle.std.proofs.Common.{◌<◌, length, sym, ◌∙◌, arith}
 use Rattle.matching.specs.Forms.{bands_of}
 use Rattle.words.specs.Decides.{no}
 use Rattle.words.proofs.Deciding.{decides_one, is_le}
-use Rattle.words.proofs.Ways.{way_size}
+use Rattle.matching.proofs.Sizes.{form_size}
 use Rattle.matching.proofs.Comparing.{agrees_begins, begins_longer}
 use Rattle.matching.proofs.starts.begins_way.Goals as goal
 
@@ -11,10 +11,10 @@ pub returns-then-len-s : goal.returns-then-len-s
 returns-then-len-s c =
     let x = c.args in
     rw c.given.ensures at c.agrees.ensures
-    ∙ agrees_begins (bands_of x.form) x.s.now _ (c.len-then-len-s.ensures ∙ sym (way_size x.form.turned x.form.word.now)) (omega arith)
+    ∙ agrees_begins (bands_of x.form) x.s.now _ (c.len-then-len-s.ensures ∙ sym (form_size x.form)) (omega arith)
 
 pub returns-else-len-s : goal.returns-else-len-s
 returns-else-len-s c =
     let f = c.args.form in
-    let l : length c.args.s.now < length (bands_of f) = omega (arith, way_size f.turned f.word.now) in
+    let l : length c.args.s.now < length (bands_of f) = omega (arith, form_size f) in
     decides_one (is_le _ _) (no (λ h. absurd (omega arith))) ∙ sym (begins_longer (bands_of f) c.args.s.now l)

@@ -1,13 +1,7 @@
 -- `next_fit`: a start that does not fit is passed over, and the window gains a band and loses one.
 use Rattle.std.proofs.Common.{◌≡◌, ◌+◌, true, false, refl, arith}
-use Rattle.windows.proofs.Adding.{adds_small, first_in, adds_next, skipped_none, skipped_more}
+use Rattle.windows.proofs.Adding.{adds_small, first_in, adds_next, skipped_more}
 use Rattle.windows.proofs.fitting.next_fit.Goals as goal
-
-pub loop-start-init : goal.loop-start-init
-loop-start-init c = (refl, c.requires.2, skipped_none)
-
-pub returns-then-fits : goal.returns-then-fits
-returns-then-fits c = let h = c.loop-start.invariant in rw h.0 (h.1, h.2)
 
 pub overflow_sub-w : goal.overflow_sub-w
 overflow_sub-w c = omega (arith, first_in c.loop-start.invariant.1 c.requires.0 (omega arith))
@@ -25,6 +19,3 @@ loop-start-preserved c =
       rw (c.from.ensures, c.from-in-loop-start.ensures) n,
       skipped_more h.2 h.1 (λ p. let no : false ≡ true = c.if-fits.ensures.1 (rw h.0 p) in cc),
     )
-
-pub returns : goal.returns
-returns c = let h = c.loop-start.invariant in rw h.0 (h.1, h.2)

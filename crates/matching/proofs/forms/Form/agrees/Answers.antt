@@ -1,7 +1,7 @@
 -- `agrees` compares the last k bands of one form with the first k of another, from the left.
 use Rattle.std.proofs.Common.{sym, ◌∙◌, arith}
 use Rattle.words.proofs.Ways.{way_size}
-use Rattle.matching.proofs.Comparing.{compared_none, compared_more, compared_stop, compared_all}
+use Rattle.matching.proofs.Comparing.{compared_none, compared_more, compared_stop}
 use Rattle.matching.proofs.forms.Form.agrees.Goals as goal
 
 pub loop-i-init : goal.loop-i-init
@@ -18,6 +18,3 @@ pub loop-i-preserved : goal.loop-i-preserved
 loop-i-preserved c =
     compared_more c.loop-i.invariant c.loop-i-test.true
     (sym c.band.ensures ∙ c.if-band.false ∙ c.band-in-loop-i.ensures)
-
-pub returns : goal.returns
-returns c = sym (compared_all c.loop-i.invariant (omega arith))
