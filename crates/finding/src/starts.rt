@@ -32,6 +32,7 @@ fn first_start(c: &[u8], s: &[u8], from: usize) -> Option<usize>
             j = 0;
             m = 0;
         }
+        // j is no counter: a fall-back takes it back, and i on with it.
         while j < n {
             let end = i + j;
             if m == n {

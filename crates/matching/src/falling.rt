@@ -23,6 +23,7 @@ pub fn go_on(b: Form<'_>, falls: &[usize], m: usize, x: u8) -> usize
     ensures { Advances (bands_of b.entry) m x result }
 {
     let mut k = m;
+    // From fall-back to fall-back, not from number to number.
     while !follows(b, k, x) {
         if k == 0 {
             return 0;
@@ -52,6 +53,7 @@ pub fn held_at_end(a: Form<'_>, k: usize, b: Form<'_>) -> usize
     ensures { HeldAtEnd (bands_of a.entry) (bands_of b.entry) k result }
 {
     let start = a.len() - k;
+    // A row of its own, filled while it is read: fixed memory, and never more bands than a code has.
     let mut falls = [0usize; MOST_HELD + 1];
     let mut filled = 1;
     let mut m = 0;

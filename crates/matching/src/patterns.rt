@@ -33,6 +33,7 @@ impl<'a> Pattern<'a> {
         ensures { result ≡ bands_of form.entry }
     {
         let mut falls = [0usize; MOST_HELD + 1];
+        // Numbers, since each fall-back is made from those before it.
         for n in 1..form.len() {
             fill_to(form, &mut falls, n, n + 1);
         }

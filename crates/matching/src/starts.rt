@@ -17,6 +17,7 @@ pub fn begins_way(form: Form<'_>, s: &[u8]) -> bool
 fn stands_way(form: Form<'_>, s: &[u8]) -> bool
     ensures { result ≡ stands_in (bands_of form.entry) s.now }
 {
+    // Numbers, since each start leaves another rest of the row.
     for i in 0..s.len() {
         if begins_way(form, &s[i..]) {
             return true;

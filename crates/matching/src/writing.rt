@@ -1,4 +1,4 @@
-// Writing a word on a row.
+// Writing a word on a row. The caller lends the row whole, with the place to write at, and goes on behind the word.
 ghost use Rattle.std.specs.Prelude.{◌+◌, ◌-◌, ◌≤◌, length, drop};
 ghost use Rattle.words.specs.Written.{Written};
 ghost use Rattle.matching.specs.Forms.{bands_of};

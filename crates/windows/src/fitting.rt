@@ -28,6 +28,7 @@ fn sum_of(form: Form<'_>) -> usize
     ensures { result ≡ total (bands_of form.entry) }
 {
     let mut sum = 0;
+    // Numbers, since a form is read from one end or the other.
     for i in 0..form.len() {
         sum += usize::from(form.band(i));
     }
