@@ -19,6 +19,7 @@ struct Followers<'a> {
 }
 
 impl Followers<'_> {
+    // b is one of them.
     fn has(self, b: usize) -> bool
         requires { b < 256 }
         ensures { result ≡ may_follow_lem (row_of self.entry.after.now) self.entry.head self.entry.other b }

@@ -29,6 +29,7 @@ impl<'a> Model for Sorted<'a> {
 }
 
 impl<'a> Sorted<'a> {
+    // Face after face is put in its place.
     pub fn of(parts: &'a Parts<'a>) -> Self
         ensures { result ≡ parts.now }
     {
