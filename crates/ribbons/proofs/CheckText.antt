@@ -10,12 +10,12 @@ use Rattle.lists.specs.Runs.{codes_in, over}
 use Rattle.lists.specs.Fit.{list_ok_lem}
 use Rattle.lists.specs.declared.numbers.Refusal.{Refusal}
 use Rattle.lists.proofs.Rules.{codes_checked, is_fit_list}
+use Rattle.grammar.specs.RibbonFile.{ribbon_of_lem}
 use Rattle.checking.specs.Answers.{CheckAnswer, refused, missing_code, held, PlaceRecord, CheckOutcome, ChecksInto}
 use Rattle.checking.specs.Answers.{false_list, long_ribbon, no_colour, no_place, short_buffer, filled}
-use Rattle.places.specs.Calls.{record_of_lem}
+use Rattle.places.specs.Calls.{record_of_lem, place_for}
 use Rattle.verdicts.specs.Calls.{answer_of, ChecksAlone}
 use Rattle.places.specs.declared.Place as declared
-use Rattle.finding.specs.declared.Way.TheVariants.{Given}
 use Rattle.verdicts.specs.declared.Checked.{Checked}
 use Rattle.verdicts.specs.declared.Checked.TheVariants.{Held}
 use Rattle.sheets.proofs.Decimal.{digits_ours}
@@ -47,7 +47,7 @@ module _ (run ls row : List ℕ) (ok : list_ok_lem run ls ≡ true) where
   -- a check with room for 128 records gives the answer
   line_is : {r : Result Checked Refusal} → ChecksAlone run ls row r → line_of (answer_of r) ≡ checked_line codes row
   line_is h =
-      let one : declared.Place = record { code = 0; way = Given 0 } in
+      let one = place_for 0 [] [] in
       let blank : List declared.Place = replicate 128 one in
       let long = length-replicate 128 one in
       check_line_only row [] codes (line_of_lem (omega (arith, length-map blank record_of_lem)) (h.checks blank (omega arith)).means)
@@ -67,3 +67,8 @@ module _ (run ls row : List ℕ) (ok : list_ok_lem run ls ≡ true) where
       let g = to_z-of_z w32 d f in
       check_written p e
       (subst (λ (z : ℤ). (n ≡ length (held_line_lem z)) × (after ≡ over (held_line_lem z) before)) g w)
+
+-- the ribbon is the one of the file
+pub of_file : (codes : List (List ℕ)) (file : List ℕ) {row before after : List ℕ} {n : ℕ} → row ≡ ribbon_of_lem file
+    → WritesOver (checked_line codes row) before after n → WritesOver (checked_line codes (ribbon_of_lem file)) before after n
+of_file codes file {before = before} {after} {n} e w = subst (λ (s : List ℕ). WritesOver (checked_line codes s) before after n) e w

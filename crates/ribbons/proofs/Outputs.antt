@@ -1,7 +1,7 @@
 -- What a program reads and writes is what is defined, for all three: a file that is read hands on a list that is fit, so the
 -- program writes of that list; and a file that is refused is refused for itself, since the programs' own buffers suffice for
 -- any list.
-use Rattle.std.proofs.Common.{◌≡◌, sym, ap, subst, inl, inr, true, List, [], ◌∷◌, ℕ, ◌*◌, ◌≤◌, arith, length, take, drop, length-append}
+use Rattle.std.proofs.Common.{◌≡◌, sym, ap, subst, ◌∙◌, inl, inr, true, List, [], ◌∷◌, ℕ, ◌*◌, ◌≤◌, arith, length, take, drop, length-append}
 use native.Mathlib.Nat.{mul-suc}
 use lib.ListN.{length-map}
 use lib.Seq.{take_at, length-take-le}
@@ -9,6 +9,7 @@ use borrow.Author.Tests.{ne_eqb}
 use Rattle.words.specs.Lists.{Each}
 use Rattle.words.proofs.Lists.{each_map}
 use Rattle.words.proofs.Deciding.{holds}
+use Rattle.lists.specs.Refusals.{refusal}
 use Rattle.lists.specs.Answers.{number_of, refusal_of}
 use Rattle.lists.specs.declared.numbers.Refusal.{Refusal}
 use Rattle.lists.specs.Runs.{codes_in, total, flat, lengths, over}
@@ -130,6 +131,14 @@ pub refused_as : {file : List ℕ} {b : Lent} {n row : ℕ} → 8192 ≤ length 
     → 3072 ≤ length b.name_run → 128 ≤ length b.name_lengths → Refuses file b n row → read_orders_lem file ≡ files.bad n row
 refused_as k l m o (in_file x h) = reads_only x
 refused_as {b = b} k l m o (in_buffers x s) = absurd (room_suffices (handed x) b k l m o s)
+
+pub refused_output : (written : files.Orders → List ℕ) {file : List ℕ} {b : Lent} {n row : ℕ} → 8192 ≤ length b.code_run
+    → 128 ≤ length b.code_lengths → 3072 ≤ length b.name_run → 128 ≤ length b.name_lengths → Refuses file b n row
+    → of_list written file ≡ refused_line_lem (refusal n row)
+refused_output written {n = n} k l m o (in_file x h) =
+    let t = ne_eqb n 0 (λ z. omega (arith, h, z)) in
+    ap (written_for written) (reads_only x) ∙ rw (t, written_for)
+refused_output written {b = b} k l m o (in_buffers x s) = absurd (room_suffices (handed x) b k l m o s)
 
 -- The two cases of what a program writes.
 module _ (written : files.Orders → List ℕ) (file : List ℕ) {before after : List ℕ} {n : ℕ} where

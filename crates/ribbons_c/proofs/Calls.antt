@@ -1,6 +1,6 @@
 -- No answer is lost in its plain form: the number of a refusal is above 0 and has one word, and its row is 0 but for order
 -- lists. So the plain form of an answer that keeps a contract is read as that answer.
-use Rattle.std.proofs.Common.{◌≡◌, refl, sym, ap, subst, ◌∙◌, List, ℕ, zero, suc, ◌≤◌, ◌<◌, arith, length, take, Result, Ok, Err}
+use Rattle.std.proofs.Common.{◌≡◌, refl, sym, ap, subst, ◌∙◌, true, List, ℕ, zero, suc, ◌≤◌, ◌<◌, arith, length, take, Result, Ok, Err}
 use lib.IntN.{ℤ}
 use lib.Seq.{take_at, take-length}
 use Rattle.lists.specs.Answers.{number_of}
