@@ -36,10 +36,10 @@ fn first_start(c: &[u8], s: &[u8], from: usize) -> Option<usize>
         while j < n {
             let end = i + j;
             if m == n {
-                return Some(end - n);
+                break 'starts Some(end - n);
             }
             if end == s.len() {
-                return None;
+                break 'starts None;
             }
             let x = s[end];
             if c[j] != x {
@@ -56,7 +56,7 @@ fn first_start(c: &[u8], s: &[u8], from: usize) -> Option<usize>
             m = turned.go_on(m, x);
             j += 1;
         }
-        return Some(i);
+        break 'starts Some(i);
     }
 }
 

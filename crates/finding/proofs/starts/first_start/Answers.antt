@@ -74,6 +74,6 @@ pub returns-then-end-s : goal.returns-then-end-s
 returns-then-end-s c =
     seeking_nowhere (as_long c.args.c.now) c.loop-j.invariant.2 c.loop-j-test.true (omega arith) c.if-end-s.true
 
-pub returns-in-starts : goal.returns-in-starts
-returns-in-starts c =
+pub returns-after-loop-j : goal.returns-after-loop-j
+returns-after-loop-j c =
     (omega arith, seeking_given (as_long c.args.c.now) c.loop-j.invariant.2 c.loop-j-test.false)
