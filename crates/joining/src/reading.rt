@@ -21,7 +21,8 @@ fn write_piece(after: &[Option<usize>], n: usize, f: usize, order: &mut [usize])
     2 * n
 }
 
-// The order of n codes, written at the beginning of order. How many faces it has.
+// The order of n codes, written at the beginning of order. How many faces it has: without a heap the row is lent, and what is
+// behind them stays as it was.
 pub fn write_order(after: &[Option<usize>], n: usize, order: &mut [usize]) -> usize
     requires { Row n (row_of after.now) × (256 ≤ length order.old) }
     ensures { WroteOrder n (row_of after.now) order.old order.new result }
