@@ -22,7 +22,7 @@ use Rattle.greedy.specs.Dropping.{kept}
 use Rattle.greedy.specs.Reading.{shared, read_piece}
 use Rattle.greedy.specs.Layout.{ribbon_for, order_for}
 use Rattle.spelling.specs.Ribbons.{InOrder, Measures}
-use Rattle.greedy.specs.Answers.{LayOutcome, lay_outcome}
+use Rattle.greedy.specs.Answers.{lay_outcome}
 use Rattle.layout.specs.Calls.{Gives, answer_of, order_outcome, kept_outcome}
 use Rattle.greedy.specs.Answers as a
 use Rattle.greedy.proofs.Answers.{by_tests}

@@ -1,5 +1,5 @@
 // The codes of a list as parts of its run of bands: no code is copied out of it.
-ghost use Rattle.std.specs.Prelude.{◌≡◌, ◌+◌, ◌*◌, ◌/◌, ◌<◌, ◌≤◌, [], ◌∷◌, ◌++◌, length};
+ghost use Rattle.std.specs.Prelude.{◌≡◌, ◌*◌, ◌/◌, ◌<◌, ◌≤◌, [], ◌∷◌, ◌++◌, length};
 ghost use Rattle.words.specs.Turn.{turned};
 ghost use Rattle.lists.specs.Handed.{words_of};
 ghost use Rattle.greedy.specs.Dropping.{code_at};

@@ -22,7 +22,7 @@ use Rattle.joins.specs.Rules.{Chosen}
 use Rattle.greedy.specs.Rules.{Lays, AllStand}
 use Rattle.greedy.proofs.Claims.{chosen_largest}
 use Rattle.greedy.proofs.Laying.{lays_twice}
-use Rattle.sheets.specs.Answers.{SheetAnswer, SheetOutcome, written, SheetsInto}
+use Rattle.sheets.specs.Answers.{SheetOutcome, written, SheetsInto}
 use Rattle.sheets.specs.Answers as sheet
 use Rattle.sheets.proofs.ReadBack.{reads_back}
 use Rattle.checking.specs.Check.{all_held}

@@ -29,7 +29,7 @@ fn tell_read(t: &mut Tally<impl Print>, file: &[u8], rooms: FileRooms) -> fmt::R
     tell(t, "sizes", sizes, orders.codes as usize)
 }
 
-// The ribbon program's output.
+// The ribbon program's output. Each program has a function: a closure over an array of any length gets no proof.
 fn tell_ribbon_output(t: &mut Tally<impl Print>, file: &[u8]) -> fmt::Result {
     let mut out = lent_row();
     let n = ribbons::ribbon_output(file, &mut out);
