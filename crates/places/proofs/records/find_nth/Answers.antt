@@ -1,6 +1,5 @@
 -- `records::find_nth`: the code starts behind those before it, and the record that is made tells its place.
-use Rattle.std.proofs.Common.{List, ℕ, ◌≡◌, ◌-◌, take, drop, get_or, refl, ap, ◌∙◌, length-take, length-drop, arith}
-use lib.Seq.{length-take-le}
+use Rattle.std.proofs.Common.{List, ℕ, ◌≡◌, ◌-◌, take, drop, get_or, refl, ap, ◌∙◌, arith}
 use Rattle.words.specs.Turn.{turned}
 use Rattle.words.specs.Place.{place_of}
 use Rattle.lists.proofs.Runs.{part_to}
@@ -19,19 +18,11 @@ sought c =
     (c.find_place.ensures
     ∙ ap (λ (w : List ℕ). place_of turned 0 w a.ribbon.now) (part_to a.bands.now c.sum_of-at.result c.from.result))
 
-pub sum_of-at-requires : goal.sum_of-at-requires
-sum_of-at-requires c = omega (arith, few c.requires, c.requires.listed, length-take-le (c.args.i - 0) c.args.lengths.now (omega (arith, c.requires.listed)))
-
 pub overflow_add-code : goal.overflow_add-code
 overflow_add-code c = record { fits = omega (arith, c.from.ensures, (part_fits c.requires c.sum_of-at.ensures).1) }
 
 pub slice_bounds-code-end : goal.slice_bounds-code-end
 slice_bounds-code-end c = omega (arith, c.from.ensures, (part_fits c.requires c.sum_of-at.ensures).0)
-
-pub find_place-requires : goal.find_place-requires
-find_place-requires c =
-    let f = part_fits c.requires c.sum_of-at.ensures in
-    omega (arith, c.from.ensures, f.0, f.3, f.4, length-take {A = ℕ}, length-drop {A = ℕ})
 
 pub unwrap-requires : goal.unwrap-requires
 unwrap-requires c = one_stands c.requires c.sum_of-at.ensures (sought c) c.find_place.result refl
