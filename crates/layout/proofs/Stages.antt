@@ -12,6 +12,8 @@ use lib.Seq.{take-append_seam}
 use borrow.Author.Tests.{lt-ltb, le-ltb}
 use Rattle.words.specs.Lists.{Each}
 use Rattle.words.specs.Turn.{turned}
+use Rattle.lists.specs.Handed.{words_of}
+use Rattle.lists.specs.declared.handed.Run.{Run}
 use Rattle.lists.specs.Runs.{codes_in, over}
 use Rattle.lists.specs.Refusals.{whole, false_list_number, short_buffer_number}
 use Rattle.lists.specs.Fit.{list_ok_lem}
@@ -28,6 +30,10 @@ use Rattle.greedy.specs.Answers as a
 use Rattle.greedy.proofs.Answers.{by_tests}
 use Rattle.layout.specs.declared.Laid.{Laid}
 use Rattle.lists.specs.declared.numbers.Refusal.{Refusal}
+
+-- what is cut from a run are its codes
+pub cut_parts : (run : Run) {ks : List (List ℕ)} → ks ≡ words_of run → ks ≡ codes_in run.bytes.now run.sizes.now
+cut_parts run e = e
 
 -- the ribbon of an order: too long for the buffer, or written
 module _ {ks : List (List ℕ)} {p : List ℕ} {bands saved : ℕ} (m : Measures ks p bands saved) (buffer : List ℕ) where

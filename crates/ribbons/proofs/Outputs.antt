@@ -1,7 +1,7 @@
 -- What a program reads and writes is what is defined, for all three: a file that is read hands on a list that is fit, so the
 -- program writes of that list; and a file that is refused is refused for itself, since the programs' own buffers suffice for
 -- any list.
-use Rattle.std.proofs.Common.{◌≡◌, sym, ap, subst, ◌∙◌, inl, inr, true, List, [], ◌∷◌, ℕ, ◌*◌, ◌≤◌, arith, length, take, drop, length-append}
+use Rattle.std.proofs.Common.{Result, Ok, Err, ◌≡◌, sym, ap, subst, ◌∙◌, inl, inr, true, List, [], ◌∷◌, ℕ, ◌*◌, ◌≤◌, arith, length, take, drop, length-append}
 use native.Mathlib.Nat.{mul-suc}
 use lib.ListN.{length-map}
 use lib.Seq.{take_at, length-take-le}
@@ -23,7 +23,8 @@ use Rattle.grammar.specs.Answers.{Lent, Short, result_of}
 use Rattle.grammar.specs.HandsOn.{HandedOn}
 use Rattle.grammar.proofs.Only.{reads_only}
 use Rattle.grammar.specs.Orders.{read_orders_lem}
-use Rattle.orders.specs.Calls.{Accepts, Refuses, in_file, in_buffers}
+use Rattle.orders.specs.Calls.{Accepts, Refuses, in_file, in_buffers, Means, ReadsOrders}
+use Rattle.orders.specs.declared.Orders.{Orders}
 use Rattle.orders.proofs.Calls.{handed}
 use Rattle.programs.specs.Programs.{refused_line_lem, written_for, of_list, WritesOver}
 
@@ -146,10 +147,30 @@ module _ (written : files.Orders → List ℕ) (file : List ℕ) {before after :
       → WritesOver (written (files.orders 0 0 ns cs)) before after n → WritesOver (of_list written file) before after n
   writes_list e w = subst (λ (o : files.Orders). WritesOver (written_for written o) before after n) (sym e) w
 
-  pub writes_refusal : (r : Refusal) → read_orders_lem file ≡ files.bad (number_of r.fault) r.row
+  pub writes_refused : (r : Refusal) → read_orders_lem file ≡ files.bad (number_of r.fault) r.row
       → (n ≡ length (refused_line_lem (refusal_of r))) × (after ≡ over (refused_line_lem (refusal_of r)) before)
       → WritesOver (of_list written file) before after n
-  writes_refusal r e w =
+  writes_refused r e w =
       let t = ne_eqb (number_of r.fault) 0 (λ z. omega (arith, some_number r.fault, z)) in
       subst (λ (o : files.Orders). WritesOver (written_for written o) before after n) (sym e)
       (rw (t, written_for) (writes_over w.0 w.1))
+
+-- The same from the call's answer.
+module _ (written : files.Orders → List ℕ) (file : List ℕ) {b left : Lent} {r : Result Orders Refusal} (p : ReadsOrders file b left r) where
+  -- the orders as the program has them
+  abbrev pub orders_in : Orders → files.Orders
+  orders_in o =
+      files.orders 0 0 (codes_in (take o.names left.name_run) (take o.codes left.name_lengths))
+      (codes_in (take o.bands left.code_run) (take o.codes left.code_lengths))
+
+  pub writes_of_list : {o : Orders} → r ≡ Ok o → {before after : List ℕ} {n : ℕ}
+      → WritesOver (written (orders_in o)) before after n → WritesOver (of_list written file) before after n
+  writes_of_list e w = writes_list written file (read_as (subst (Means file b left) e p.means)) w
+
+  pub writes_refusal : {x : Refusal} → r ≡ Err x → 8192 ≤ length b.code_run → 128 ≤ length b.code_lengths
+      → 3072 ≤ length b.name_run → 128 ≤ length b.name_lengths → {before after : List ℕ} {n : ℕ}
+      → (n ≡ length (refused_line_lem (refusal_of x))) × (after ≡ over (refused_line_lem (refusal_of x)) before)
+      → WritesOver (of_list written file) before after n
+  writes_refusal {x} e k l m o w =
+      let f = subst (Means file b left) e p.means in
+      writes_refused written file x (refused_as k l m o f.0) w

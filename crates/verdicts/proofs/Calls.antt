@@ -20,7 +20,7 @@ use Rattle.lists.specs.declared.numbers.Refusal.{Refusal}
 use Rattle.lists.proofs.Table.{some_number}
 use Rattle.lists.specs.Outcome.{outcome}
 use Rattle.lists.specs.Runs.{codes_in, over}
-use Rattle.lists.specs.Fit.{list_ok_lem}
+use Rattle.lists.specs.Fit.{list_ok_lem, all_bands_lem}
 use Rattle.lists.proofs.Runs.{codes_count}
 use Rattle.lists.proofs.Rules.{codes_checked, is_fit_list}
 use Rattle.greedy.specs.Layout.{ribbon_for}
@@ -46,6 +46,9 @@ module _ (run ls row : List ℕ) where
 
   long_fault : list_ok_lem run ls ≡ true → 16384 < length row → supplied_fault_lem run ls row ≡ long_ribbon_number
   long_fault e l = rw (e, lt-ltb 16384 (length row) l, supplied_fault_lem)
+
+  pub no_fault : list_ok_lem run ls ≡ true → length row ≤ 16384 → all_bands_lem row ≡ true → supplied_fault_lem run ls row ≡ 0
+  no_fault ok l e = rw (ok, le-ltb 16384 (length row) l, e, supplied_fault_lem)
 
   -- where no refusal is due the list is fit and the ribbon not too long
   pub not_faulty : supplied_fault_lem run ls row ≡ 0 → (list_ok_lem run ls ≡ true) × (length row ≤ 16384)

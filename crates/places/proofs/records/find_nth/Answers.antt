@@ -1,5 +1,5 @@
 -- `records::find_nth`: the code starts behind those before it, and the record that is made tells its place.
-use Rattle.std.proofs.Common.{List, ℕ, ◌≡◌, ◌-◌, take, drop, get_or, refl, ap, ◌∙◌, arith}
+use Rattle.std.proofs.Common.{List, ℕ, ◌≡◌, take, drop, get_or, refl, ap, ◌∙◌, arith}
 use Rattle.words.specs.Turn.{turned}
 use Rattle.words.specs.Place.{place_of}
 use Rattle.lists.proofs.Runs.{part_to}

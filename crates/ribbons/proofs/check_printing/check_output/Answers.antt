@@ -5,7 +5,7 @@ use Rattle.grammar.specs.RibbonFile.{ribbon_of_lem}
 use Rattle.programs.specs.Programs.{checked_line}
 use Rattle.ribbons.specs.OrderLists.{codes_of}
 use Rattle.ribbons.proofs.CheckText.{of_file}
-use Rattle.ribbons.proofs.Outputs.{writes_list, writes_refusal}
+use Rattle.ribbons.proofs.Outputs.{writes_list, writes_refused}
 use Rattle.ribbons.proofs.check_printing.check_output.Goals as goal
 
 abbrev written : List ℕ → Orders → List ℕ
@@ -19,4 +19,4 @@ returns-in-Ok c =
 
 pub returns-in-Err : goal.returns-in-Err
 returns-in-Err c =
-    writes_refusal (written c.args.ribbon_file.now) c.args.list.now _ c.in-Err.ensures c.refused_line.ensures
+    writes_refused (written c.args.ribbon_file.now) c.args.list.now _ c.in-Err.ensures c.refused_line.ensures
