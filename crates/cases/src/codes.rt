@@ -4,7 +4,7 @@ use crate::families::{Family, Plan};
 use arrayvec::ArrayVec;
 use lists::{MOST_BANDS, MOST_CODES};
 
-// The bands of all codes, and the length and the start of each.
+// The bands of all codes, and the length and the start of each: apart, since the calls take plain slices.
 #[derive(Drop)]
 pub struct Codes {
     bands: ArrayVec<u8, MOST_BANDS>,

@@ -36,7 +36,8 @@ impl From<&[u8]> for Family {
 // The bands that a chain's codes are parts of.
 type Word = ArrayVec<u8, 99>;
 
-// What a list is made by: its family, how many codes are due, the letters of its bands, and for chains their word.
+// What a list is made by: its family, how many codes are due, the letters of its bands, and for chains their word. That stands beside
+// the family, since an enum that holds it would name the other four again.
 #[derive(Drop)]
 pub struct Plan {
     family: Family,

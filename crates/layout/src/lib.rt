@@ -19,6 +19,7 @@ pub struct Laid {
 fn lay_order(order: &Order<'_>, ribbon: &mut [u8]) -> Result<Laid, Refusal>
     ensures { Gives (order_outcome order.now.parts.now order.now.faces.now ribbon.old) ribbon.new result }
 {
+    // What neighbours share, kept so that no overlap is looked for twice.
     let mut skips = [0usize; 256];
     let sums = order.measure(&mut skips);
     if ribbon.len() < sums.bands {
@@ -35,6 +36,7 @@ fn lay_order(order: &Order<'_>, ribbon: &mut [u8]) -> Result<Laid, Refusal>
 fn lay_kept(parts: &Parts<'_>, ribbon: &mut [u8]) -> Result<Laid, Refusal>
     ensures { Gives (kept_outcome parts.now ribbon.old) ribbon.new result }
 {
+    // A row of fixed memory, as long as any order, and how much of it there is.
     let mut order = [0usize; 256];
     let count = order_faces(parts, &mut order);
     let order = Order {
@@ -46,6 +48,7 @@ fn lay_kept(parts: &Parts<'_>, ribbon: &mut [u8]) -> Result<Laid, Refusal>
 
 // Lays out a list of codes, one run of bands and a length for each, into a lent ribbon. It answers with the ribbon's length
 // and what is saved. It refuses a false list by 12, and a ribbon that is too short by 13; then nothing lent is touched.
+// The list comes as two slices, as C passes it.
 pub fn lay_ribbon(bands: &[u8], lengths: &[u16], ribbon: &mut [u8]) -> Result<Laid, Refusal>
     ensures { LaysRibbon bands.now lengths.now ribbon.old ribbon.new result }
 {

@@ -1,4 +1,4 @@
-// The lines that programs write.
+// The lines that programs write. Their numbers go by hand into a sink: `Display` promises its text only of a write that succeeds.
 #![tactic(auto)]
 
 ghost use Rattle.std.specs.Prelude.{◌≤◌, ◌≡◌, length};

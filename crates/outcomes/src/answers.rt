@@ -8,7 +8,7 @@ use telling::Tally;
 use verdicts::Checked;
 use writer::Wrote;
 
-// What a call answers where it refuses nothing.
+// What a call answers where it refuses nothing. No Display: the types are the library's, the texts are the trials' own.
 pub trait Answer: Copy {
     fn say<W: Write>(self, to: &mut W) -> fmt::Result;
 }

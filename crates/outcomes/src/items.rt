@@ -1,4 +1,4 @@
-// The items of buffers, and how they are said.
+// The items of buffers, and how they are said. Not by Display: bytes and records have texts of the trials' own.
 use std::fmt;
 use std::fmt::Write;
 use telling::Checksum;

@@ -8,7 +8,7 @@ use telling::Checksum;
 // the most that a case lends
 pub const MOST_RECORDS: usize = 130;
 
-// A record in which nothing is set.
+// A record in which nothing is set, made here and not asked of places: a test says itself what an unset record holds.
 pub fn blank_record() -> Place {
     Place {
         code: 0,

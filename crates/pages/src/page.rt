@@ -26,14 +26,15 @@ pub fn sheet_size(rows: &Rows) -> usize
     put_heading(&mut heading);
     let mut size = heading.size;
 
-    // A count of each row, not one of all rows: that a count fits is known of a row whose numbers were read.
+    // A count of each row, not one of all rows: that a count fits is known of a row whose numbers were read. By number as above.
     for code in 0..rows.lengths.len() {
         size += rows.nth_size(code);
     }
     size
 }
 
-// The sheet, row after row, into a buffer that has room for it; how many bytes.
+// The sheet, row after row, into a buffer that has room for it; how many bytes. A count, no slice: the clause speaks of the whole
+// buffer.
 pub fn put_sheet(rows: &Rows, out: &mut [u8]) -> usize
     requires { length (sheet rows.now) ≤ length out.old }
     ensures { PutsSheet (sheet rows.now) out.old out.new result }

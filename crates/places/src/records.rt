@@ -19,7 +19,7 @@ pub fn count_from(bands: &[u8], at: usize, size: usize, ribbon: &[u8], start: us
     counting::count_places(&bands[at..at + size], &ribbon[start..])
 }
 
-// The way of a place, with its start in fewer bits.
+// The way of a place, with its start in fewer bits. No TryFrom: that the start fits is known, and there is no error to give.
 fn narrow(way: Way<usize>) -> Way<u32>
     requires { StartsWithin 16384 (way_at way) }
     ensures { result ≡ way }
@@ -43,7 +43,7 @@ pub fn record_of(way: Way<usize>, code: usize) -> Place
 }
 
 // The record of code i of a fit list, which has a place: its part of the lent run, that part's place on the ribbon, and its
-// number. It starts in the run behind those before it.
+// number. It starts in the run behind those before it. Nothing calls it yet: `find_places` makes the records before it too.
 pub fn find_nth(bands: &[u8], lengths: &[u16], ribbon: &[u8], i: usize) -> Place
     requires { HasPlace bands.now lengths.now ribbon.now i }
     ensures { result ≡ place_for i (code_at (codes_in bands.now lengths.now) i) ribbon.now }

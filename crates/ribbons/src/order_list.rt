@@ -57,7 +57,7 @@ impl OrderList {
         }
     }
 
-    // Its names.
+    // Its names. A method of their own: codes and names are fit by different rules, and each says its own.
     pub fn names(&self) -> Run<'_>
         ensures words { words_of result ≡ names_of self.now }
         ensures fit { names_ok_lem self.now.counts.codes result.bytes.now result.sizes.now ≡ true }

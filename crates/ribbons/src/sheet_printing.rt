@@ -21,7 +21,7 @@ fn sheet_text(list: &OrderList, out: &mut [u8]) -> usize
 }
 
 // The whole output, at the beginning of a row that has room for any: the sheet of an order list, or the line of its refusal.
-// How many bytes it has.
+// How many bytes it has. The match is that of the other programs: with a closure for its middle the contract would be longer.
 pub fn sheet_output(file: &[u8], out: &mut [u8; MOST_SHEET_BYTES]) -> usize
     ensures { WritesOver (sheet_output_lem file.now) out.old out.new result }
 {

@@ -1,4 +1,4 @@
-// Answers as plain data: what does not apply has the default, 0 or false.
+// Answers as plain data, since no enum passes to C: what does not apply has the default, 0 or false.
 ghost use Rattle.std.specs.Prelude.{◌≡◌};
 
 use ribbons::{Checked, Laid, Orders, Refusal, Wrote};

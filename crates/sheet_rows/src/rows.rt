@@ -14,6 +14,7 @@ use places::Way;
 pub struct Rows<'a> {
     pub names: &'a [u8],
     pub sizes: &'a [u16],
+    // Two rows: the lengths stay as they are handed over.
     pub lengths: &'a [u16],
     pub shown: &'a [Shown],
     pub ribbon: &'a [u8],
