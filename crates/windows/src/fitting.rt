@@ -77,10 +77,12 @@ pub fn next_fit(s: &[u8], n: usize, sums: Sums, from: Window, least: usize) -> W
     ensures { Windowed s.now n result.start result.sum × Skipped s.now n sums.given sums.turned from.start least result.start }
 {
     let mut w = from;
-    for start in from.start..s.len() - n {
+    // No `for` over the starts: with a count beside the window a row of nearly equal codes took a fifth longer to check.
+    while w.start + n < s.len() {
         if fits(least, sums, w) {
             return w;
         }
+        let start = w.start;
         w = Window {
             start: start + 1,
             sum: w.sum - usize::from(s[start]) + usize::from(s[start + n]),

@@ -1,21 +1,23 @@
 -- `next_fit`: a start that does not fit is passed over, and the window gains a band and loses one.
-use Rattle.std.proofs.Common.{◌≡◌, ◌+◌, true, false, refl, arith}
+use Rattle.std.proofs.Common.{◌≡◌, ◌+◌, true, false, arith}
 use Rattle.windows.proofs.Adding.{adds_small, first_in, adds_next, skipped_more}
 use Rattle.windows.proofs.fitting.next_fit.Goals as goal
 
+pub overflow_add-w : goal.overflow_add-w
+overflow_add-w c = omega (arith, c.loop-w.invariant.0.within)
+
 pub overflow_sub-w : goal.overflow_sub-w
-overflow_sub-w c = omega (arith, first_in c.loop-start.invariant.1 c.requires.0 (omega arith))
+overflow_sub-w c = omega (arith, first_in c.loop-w.invariant.0 c.requires.0 c.loop-w-test.true)
 
-pub overflow_add-w-in-loop-start : goal.overflow_add-w-in-loop-start
-overflow_add-w-in-loop-start c =
-    let small = adds_small c.loop-start.invariant.1 (λ i. omega (arith, c.type_inv.s i)) in
-    omega (arith, small, c.type_inv.s (c.loop-start.start + c.args.n))
+pub overflow_add-w-in-loop-w-2 : goal.overflow_add-w-in-loop-w-2
+overflow_add-w-in-loop-w-2 c =
+    let small = adds_small c.loop-w.invariant.0 (λ i. omega (arith, c.type_inv.s i)) in
+    omega (arith, small, c.type_inv.s (c.loop-w.w.start + c.args.n))
 
-pub loop-start-preserved : goal.loop-start-preserved
-loop-start-preserved c =
-    let h = c.loop-start.invariant in
-    let n = adds_next h.1 c.requires.0 (omega arith) in (
-      refl,
-      rw (c.from.ensures, c.from-in-loop-start.ensures) n,
-      skipped_more h.2 h.1 (λ p. let no : false ≡ true = c.if-fits.ensures.1 (rw h.0 p) in cc),
+pub loop-w-preserved : goal.loop-w-preserved
+loop-w-preserved c =
+    let h = c.loop-w.invariant in
+    let n = adds_next h.0 c.requires.0 c.loop-w-test.true in (
+      rw (c.from.ensures, c.from-in-loop-w.ensures) n,
+      skipped_more h.1 h.0 (λ p. let no : false ≡ true = c.if-fits.ensures.1 p in cc),
     )
