@@ -1,42 +1,60 @@
 // The codes of a generated list.
-use crate::bands::{copy, draw_bands};
-use crate::families::{Family, STARTS, begin_code, begin_list};
-use crate::total::{minus, plus, put_number};
+use crate::draws::Draws;
+use crate::families::{Family, Plan};
+use arrayvec::ArrayVec;
+use lists::{MOST_BANDS, MOST_CODES};
 
-// The codes and bands that stand, and the state of the draws.
+// The bands of all codes, and the length and the start of each: apart, since the calls take plain slices.
 #[derive(Drop)]
 pub struct Codes {
-    pub x: usize,
-    pub codes: usize,
-    pub bands: usize,
+    bands: ArrayVec<u8, MOST_BANDS>,
+    lengths: ArrayVec<u16, MOST_CODES>,
+    starts: ArrayVec<usize, MOST_CODES>,
 }
 
-// One code more, with its length and its start.
-fn make_code(f: Family, c: Codes, bands: &mut [u8], lengths: &mut [u16]) -> Codes {
-    let r = begin_code(f, c.x, c.codes, c.bands, lengths);
-    let x = draw_bands(r.x, f.letters, bands, c.bands, r.drawn);
-    let at = plus(c.bands, r.drawn);
-    let end = copy(bands, r.source, r.copied, r.turned, at);
-    put_number(lengths, c.codes, minus(end, c.bands));
-    put_number(lengths, plus(STARTS, c.codes), c.bands);
-    Codes {
-        x,
-        codes: plus(c.codes, 1),
-        bands: end,
+impl Codes {
+    // The codes of case k of a line of a family.
+    pub fn draw(family: Family, k: usize, draws: &mut Draws) -> Self {
+        let mut codes = Codes {
+            bands: ArrayVec::new(),
+            lengths: ArrayVec::new(),
+            starts: ArrayVec::new(),
+        };
+        let plan = Plan::draw(family, k, draws);
+        for _ in 0..plan.due {
+            let code = plan.next_code(&codes, draws);
+            codes.push(code.as_slice());
+        }
+        codes
     }
-}
 
-// The codes of case k of a line of this family, at the beginnings of two rows.
-pub fn make_codes(letter: u8, k: usize, x: usize, bands: &mut [u8], lengths: &mut [u16]) -> Codes {
-    let f = begin_list(letter, k, x, bands);
-    let mut c = Codes {
-        x: f.x,
-        codes: 0,
-        bands: 0,
-    };
-    let due = f.due;
-    for _ in 0..due {
-        c = make_code(f, c, bands, lengths);
+    // One code more; there is room for all that are due.
+    fn push(&mut self, code: &[u8]) {
+        let _ = self.starts.try_push(self.bands.len());
+        let _ = self
+            .lengths
+            .try_push(u16::try_from(code.len()).unwrap_or(0));
+        let _ = self.bands.try_extend_from_slice(code);
     }
-    c
+
+    pub fn count(&self) -> usize {
+        self.lengths.len()
+    }
+
+    pub fn bands(&self) -> &[u8] {
+        self.bands.as_slice()
+    }
+
+    pub fn lengths(&self) -> &[u16] {
+        self.lengths.as_slice()
+    }
+
+    // The bands of code j; none where there is no such code.
+    pub fn code(&self, j: usize) -> &[u8] {
+        let start = self.starts.get(j).copied().unwrap_or(0);
+        let length = self.lengths.get(j).copied().map_or(0, usize::from);
+        self.bands
+            .get(start..start.saturating_add(length))
+            .unwrap_or(&[])
+    }
 }

@@ -1,14 +1,38 @@
-// The generator's draws. A state is drawn from by its rest, after each step.
+// The generator's draws.
+ghost use Rattle.std.specs.Prelude.{◌≡◌, ◌*◌, ◌%◌, ◌<◌, ◌≤◌};
 
-// The state after another.
-pub fn next(x: usize) -> usize {
-    x % 2147483647 * 48271 % 2147483647
+// The modulus and the factor of the rule by which a state follows another.
+const MODULUS: usize = 2147483647;
+
+const FACTOR: usize = 48271;
+
+// A run of draws: each is the state that follows the last.
+#[derive(Clone, Copy)]
+pub struct Draws {
+    pub state: usize,
 }
 
-// A state's draw out of n.
-pub fn drawn(x: usize, n: usize) -> usize {
-    if n == 0 {
-        return 0;
+impl Draws {
+    pub fn from_seed(seed: usize) -> Self
+        ensures { result.state ≡ seed }
+    {
+        Draws { state: seed }
     }
-    x % n
+
+    // The next draw.
+    pub fn next(&mut self) -> usize
+        ensures state { self.new.state ≡ self.old.state % 2147483647 * 48271 % 2147483647 }
+        ensures value { result ≡ self.new.state }
+    {
+        self.state = self.state % MODULUS * FACTOR % MODULUS;
+        self.state
+    }
+
+    // The next draw out of n; 0 where n is.
+    pub fn below(&mut self, n: usize) -> usize
+        ensures below { 0 < n → result < n }
+        ensures at_most { result ≤ n }
+    {
+        self.next().checked_rem(n).unwrap_or(0)
+    }
 }

@@ -1,163 +1,123 @@
 // The families of generated lists: how many codes a list has, and how each is made.
-use crate::bands::{RARE, draw_bands};
-use crate::draws::{drawn, next};
-use crate::total::{look_number, minus, plus};
-use lists::{MOST_BANDS, MOST_CODES};
+use crate::code::{Code, fresh, palindrome, part_of};
+use crate::codes::Codes;
+use crate::draws::Draws;
+use crate::letters::Letters;
+use arrayvec::ArrayVec;
+use lists::MOST_CODES;
 
-// the chains' word stands behind all bands
-const WORD: usize = MOST_BANDS;
-
-// the codes' starts stand behind their lengths
-pub const STARTS: usize = MOST_CODES;
-
-// A list in the making: the state of the draws, the family's first letter, how many codes are due, the letters that bands are
-// drawn from, and the length of the word that codes are parts of.
 #[derive(Clone, Copy)]
-pub struct Family {
-    pub x: usize,
-    pub letter: u8,
-    pub due: usize,
-    pub letters: usize,
-    pub word: usize,
+pub enum Family {
+    // Short codes of two bands.
+    Ties,
+    // Codes some of which are palindromes.
+    Palindromes,
+    // Parts of codes that stand, among others.
+    Nested,
+    // Parts of a word.
+    Chains,
+    // The largest lists.
+    Full,
 }
 
-// A code in the making: the state of the draws, how many of its bands are drawn, and how many behind them are copied from
-// where, turned or not.
+impl From<&[u8]> for Family {
+    // By its first letter.
+    fn from(name: &[u8]) -> Self {
+        match name {
+            [b't', ..] => Family::Ties,
+            [b'p', ..] => Family::Palindromes,
+            [b'n', ..] => Family::Nested,
+            [b'c', ..] => Family::Chains,
+            _ => Family::Full,
+        }
+    }
+}
+
+// The bands that a chain's codes are parts of.
+type Word = ArrayVec<u8, 99>;
+
+// What a list is made by: its family, how many codes are due, the letters of its bands, and for chains their word. That stands beside
+// the family, since an enum that holds it would name the other four again.
 #[derive(Drop)]
-pub struct Recipe {
-    pub x: usize,
-    pub drawn: usize,
-    pub copied: usize,
-    pub source: usize,
-    pub turned: bool,
+pub struct Plan {
+    family: Family,
+    pub due: usize,
+    letters: Letters,
+    word: Word,
 }
 
-// A family with no word.
-fn wordless(x: usize, letter: u8, due: usize, letters: usize) -> Family {
-    Family {
-        x,
-        letter,
-        due,
-        letters,
-        word: 0,
+impl Plan {
+    fn new(family: Family, due: usize, letters: Letters) -> Self {
+        Plan {
+            family,
+            due,
+            letters,
+            word: Word::new(),
+        }
     }
-}
 
-// Codes some of which are palindromes, of two letters or three.
-fn palindromes(x: usize) -> Family {
-    let y = next(x);
-    let z = next(y);
-    wordless(z, b'p', 2 + y % 9, 2 + z % 2)
-}
-
-// Parts of a word, which is drawn into the row.
-fn chains(x: usize, row: &mut [u8]) -> Family {
-    let y = next(x);
-    let word = 40 + y % 60;
-    let z = next(draw_bands(y, 4, row, WORD, word));
-    Family {
-        x: z,
-        letter: b'c',
-        due: 3 + z % 18,
-        letters: 4,
-        word,
+    // Parts of a word.
+    fn chains(draws: &mut Draws) -> Self {
+        let letters = Letters::First(4);
+        let n = 40 + draws.below(60);
+        let word = fresh(n, letters, draws);
+        Plan {
+            family: Family::Chains,
+            due: 3 + draws.below(18),
+            letters,
+            word,
+        }
     }
-}
 
-// The largest lists, of other letters from case to case.
-fn full(x: usize, k: usize) -> Family {
-    match k % 3 {
-        0 => wordless(x, b'f', MOST_CODES, 2),
-        1 => wordless(x, b'f', MOST_CODES, 26),
-        _ => wordless(x, b'f', MOST_CODES, RARE),
+    // Case k of a line of a family; the largest lists are of other letters from case to case.
+    pub fn draw(family: Family, k: usize, draws: &mut Draws) -> Self {
+        match family {
+            Family::Ties => Plan::new(family, 2 + draws.below(11), Letters::First(2)),
+            Family::Palindromes => {
+                let due = 2 + draws.below(9);
+                Plan::new(family, due, Letters::First(2 + draws.below(2)))
+            }
+            Family::Nested => Plan::new(family, 2 + draws.below(15), Letters::First(3)),
+            Family::Chains => Plan::chains(draws),
+            Family::Full => {
+                let letters = [Letters::First(2), Letters::First(26), Letters::NearlyEqual];
+                Plan::new(family, MOST_CODES, letters[k % 3])
+            }
+        }
     }
-}
 
-// The list of case k of a line of the family of this letter.
-pub fn begin_list(letter: u8, k: usize, x: usize, row: &mut [u8]) -> Family {
-    let y = next(x);
-    match letter {
-        b't' => wordless(y, letter, 2 + y % 11, 2),
-        b'p' => palindromes(x),
-        b'n' => wordless(y, letter, 2 + y % 15, 3),
-        b'c' => chains(x, row),
-        _ => full(x, k),
+    // A nested list's first code and one in five of the others are drawn, the rest are parts of those that stand.
+    fn nested_code(&self, codes: &Codes, draws: &mut Draws) -> Code {
+        let first = draws.next();
+        if codes.count() == 0 {
+            return fresh(8 + first % 57, self.letters, draws);
+        }
+        if first % 5 == 0 {
+            let n = 1 + draws.below(10);
+            return fresh(n, self.letters, draws);
+        }
+        let whole = codes.code(draws.below(codes.count()));
+        let n = 1 + draws.below(whole.len());
+        part_of(whole, n, draws)
     }
-}
 
-// A code all of whose bands are drawn.
-fn fresh(x: usize, n: usize) -> Recipe {
-    Recipe {
-        x,
-        drawn: n,
-        copied: 0,
-        source: 0,
-        turned: false,
-    }
-}
-
-// A palindrome, but for one in four.
-fn palindrome(x: usize, at: usize) -> Recipe {
-    let y = next(x);
-    let n = 1 + y % 9;
-    let z = next(y);
-    if z % 4 == 0 {
-        return fresh(z, n);
-    }
-    Recipe {
-        x: z,
-        drawn: (n + 1) / 2,
-        copied: n / 2,
-        source: at,
-        turned: true,
-    }
-}
-
-// A code of n bands that is a part of the m that stand from an index on, or its turned form.
-fn part_of(x: usize, from: usize, m: usize, n: usize) -> Recipe {
-    let y = next(x);
-    let z = next(y);
-    Recipe {
-        x: z,
-        drawn: 0,
-        copied: n,
-        source: plus(from, drawn(y, plus(minus(m, n), 1))),
-        turned: z % 2 == 1,
-    }
-}
-
-// A part of one of the codes that stand.
-fn nested(x: usize, codes: usize, lengths: &[u16]) -> Recipe {
-    let y = next(x);
-    let j = drawn(y, codes);
-    let m = look_number(lengths, j) as usize;
-    let start = look_number(lengths, plus(STARTS, j)) as usize;
-    let z = next(y);
-    part_of(z, start, m, plus(1, drawn(z, m)))
-}
-
-// A nested list's first code, and one in five of the others, are drawn.
-fn nested_code(x: usize, codes: usize, lengths: &[u16]) -> Recipe {
-    let y = next(x);
-    if codes == 0 {
-        return fresh(y, 8 + y % 57);
-    }
-    if y % 5 == 0 {
-        let z = next(y);
-        return fresh(z, 1 + z % 10);
-    }
-    nested(y, codes, lengths)
-}
-
-// The next code of a list, of which so many codes and bands stand.
-pub fn begin_code(f: Family, x: usize, codes: usize, bands: usize, lengths: &[u16]) -> Recipe {
-    let y = next(x);
-    let letter = f.letter;
-    match letter {
-        b't' => fresh(y, 1 + y % 6),
-        b'p' => palindrome(x, bands),
-        b'n' => nested_code(x, codes, lengths),
-        b'c' => part_of(y, WORD, f.word, 4 + y % 12),
-        _ => fresh(y, 64 - y % 8),
+    // The next code behind those that stand.
+    pub fn next_code(&self, codes: &Codes, draws: &mut Draws) -> Code {
+        match self.family {
+            Family::Ties => {
+                let n = 1 + draws.below(6);
+                fresh(n, self.letters, draws)
+            }
+            Family::Palindromes => palindrome(self.letters, draws),
+            Family::Nested => self.nested_code(codes, draws),
+            Family::Chains => {
+                let n = 4 + draws.below(12);
+                part_of(self.word.as_slice(), n, draws)
+            }
+            Family::Full => {
+                let n = 64 - draws.below(8);
+                fresh(n, self.letters, draws)
+            }
+        }
     }
 }

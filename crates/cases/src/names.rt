@@ -1,44 +1,52 @@
 // The names of a generated list.
-use crate::draws::next;
-use crate::total::{fill, minus, put_number};
+use crate::draws::Draws;
+use arrayvec::ArrayVec;
+use lists::{MOST_CODES, MOST_NAME_BYTES};
 
-// The bytes of the names that stand, and the state of the draws.
+// The bytes of all names, and the size of each.
 #[derive(Drop)]
 pub struct Names {
-    pub x: usize,
-    pub bytes: usize,
+    bytes: ArrayVec<u8, MOST_NAME_BYTES>,
+    sizes: ArrayVec<u16, MOST_CODES>,
 }
 
-// The two letters of a code's number, from an index on; the answer is the index behind.
-fn put_letters(names: &mut [u8], at: usize, i: usize) -> usize {
-    let second = fill(names, at, 1, b'a' + (i / 26 % 26) as u8);
-    fill(names, second, 1, b'a' + (i % 26) as u8)
-}
-
-// What some names have behind their letters.
-fn put_marks(names: &mut [u8], at: usize, e: usize) -> usize {
-    match e {
-        0 => fill(names, at, 1, b','),
-        1 => fill(names, at, 1, b'"'),
-        2 => fill(names, at, 22, b'"'),
-        _ => at,
+// What a name has behind its letters.
+fn marks(draw: usize) -> &'static [u8] {
+    match draw % 8 {
+        0 => b",",
+        1 => b"\"",
+        2 => &[b'"'; 22],
+        _ => b"",
     }
 }
 
-// The name of code i.
-fn make_name(n: Names, i: usize, names: &mut [u8], sizes: &mut [u16]) -> Names {
-    let x = next(n.x);
-    let at = put_letters(names, n.bytes, i);
-    let to = put_marks(names, at, x % 8);
-    put_number(sizes, i, minus(to, n.bytes));
-    Names { x, bytes: to }
-}
-
-// The names of so many codes, at the beginnings of two rows.
-pub fn make_names(x: usize, count: usize, names: &mut [u8], sizes: &mut [u16]) -> Names {
-    let mut n = Names { x, bytes: 0 };
-    for i in 0..count {
-        n = make_name(n, i, names, sizes);
+impl Names {
+    // The names of so many codes.
+    pub fn draw(count: usize, draws: &mut Draws) -> Self {
+        let mut names = Names {
+            bytes: ArrayVec::new(),
+            sizes: ArrayVec::new(),
+        };
+        for i in 0..count {
+            names.push(i, marks(draws.next()));
+        }
+        names
     }
-    n
+
+    // The name of code i: the two letters of its number, and marks; there is room for it.
+    fn push(&mut self, i: usize, marks: &[u8]) {
+        let letters = [b'a' + (i / 26 % 26) as u8, b'a' + (i % 26) as u8];
+        let _ = self.bytes.try_extend_from_slice(&letters);
+        let _ = self.bytes.try_extend_from_slice(marks);
+        let size = letters.len().saturating_add(marks.len());
+        let _ = self.sizes.try_push(u16::try_from(size).unwrap_or(0));
+    }
+
+    pub fn bytes(&self) -> &[u8] {
+        self.bytes.as_slice()
+    }
+
+    pub fn sizes(&self) -> &[u16] {
+        self.sizes.as_slice()
+    }
 }

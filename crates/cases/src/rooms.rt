@@ -1,35 +1,71 @@
-// The rooms that a generated case lends.
-use crate::draws::next;
-use crate::total::{minus, plus};
+// The rooms that a case lends.
+use crate::draws::Draws;
 use lists::{MOST_BANDS, MOST_CODES};
 
-// The rooms for ribbon, records and sheet, and the state of the draws.
-#[derive(Drop)]
-pub struct Rooms {
-    pub x: usize,
-    pub numbers: [u16; 3],
+// The room of this number in a line; 0 where the line has none.
+fn room(numbers: &[u16], i: usize) -> usize {
+    numbers.get(i).copied().map_or(0, usize::from)
 }
 
-// What is due, one less, some more, or the most.
-fn room(e: usize, due: usize, more: usize, most: usize) -> u16 {
-    let n = match e {
-        0 => due,
-        1 => minus(due, 1),
-        2 => plus(due, more),
-        _ => most,
-    };
-    (n % 65536) as u16
+// The rooms of the case of an order list.
+#[derive(Clone, Copy)]
+pub struct FileRooms {
+    pub bands: usize,
+    pub lengths: usize,
+    pub names: usize,
+    pub sizes: usize,
 }
 
-// The rooms for a ribbon of so many bands, so many records and a sheet of so many bytes.
-pub fn draw_rooms(x: usize, bands: usize, codes: usize, sheet: usize) -> Rooms {
-    let a = next(x);
-    let b = next(a);
-    let c = next(b);
-    let numbers = [
-        room(a % 4, bands, 3, MOST_BANDS),
-        room(b % 4, codes, 2, MOST_CODES),
-        room(c % 3, sheet, 5, 0),
-    ];
-    Rooms { x: c, numbers }
+impl From<&[u16]> for FileRooms {
+    fn from(numbers: &[u16]) -> Self {
+        FileRooms {
+            bands: room(numbers, 0),
+            lengths: room(numbers, 1),
+            names: room(numbers, 2),
+            sizes: room(numbers, 3),
+        }
+    }
+}
+
+// The rooms of the case of a list that is handed over.
+#[derive(Clone, Copy)]
+pub struct ListRooms {
+    pub ribbon: usize,
+    pub records: usize,
+    pub sheet: usize,
+}
+
+impl From<&[u16]> for ListRooms {
+    fn from(numbers: &[u16]) -> Self {
+        ListRooms {
+            ribbon: room(numbers, 0),
+            records: room(numbers, 1),
+            sheet: room(numbers, 2),
+        }
+    }
+}
+
+impl ListRooms {
+    // The rooms of a generated case with a ribbon of so many bands, so many codes and a sheet of so many bytes: each is what is due, one
+    // less or some more, or for two of them the most.
+    pub fn draw(bands: usize, codes: usize, sheet: usize, draws: &mut Draws) -> Self {
+        let ribbon = [
+            bands,
+            bands.saturating_sub(1),
+            bands.saturating_add(3),
+            MOST_BANDS,
+        ];
+        let records = [
+            codes,
+            codes.saturating_sub(1),
+            codes.saturating_add(2),
+            MOST_CODES,
+        ];
+        let sheets = [sheet, sheet.saturating_sub(1), sheet.saturating_add(5)];
+        ListRooms {
+            ribbon: ribbon[draws.below(4)],
+            records: records[draws.below(4)],
+            sheet: sheets[draws.below(3)],
+        }
+    }
 }

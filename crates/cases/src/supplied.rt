@@ -1,48 +1,54 @@
 // The supplied ribbon of a generated case.
-use crate::bands::copy;
-use crate::draws::next;
-use crate::total::{minus, plus, put};
+use crate::draws::Draws;
+use arrayvec::ArrayVec;
+use lists::MOST_BANDS;
 
-// The length of a supplied ribbon, and the state of the draws.
-#[derive(Drop)]
-pub struct Supplied {
-    pub x: usize,
-    pub length: usize,
+// a computed ribbon, and one band more
+pub const ROOM: usize = MOST_BANDS + 1;
+
+// What becomes of a computed ribbon.
+#[derive(Clone, Copy)]
+enum Change {
+    Kept,
+    OneShort,
+    OneWrong,
+    OneMore,
+    Turned,
 }
 
-// A ribbon is turned, by way of a copy behind it.
-fn turn(ribbon: &mut [u8], n: usize) {
-    copy(ribbon, 0, n, true, n);
-    copy(ribbon, n, n, false, 0);
-}
+// By draws out of six.
+const CHANGES: [Change; 6] = [
+    Change::Kept,
+    Change::Kept,
+    Change::OneShort,
+    Change::OneWrong,
+    Change::OneMore,
+    Change::Turned,
+];
 
-// One band becomes another; the answer is the state of the draws.
-fn spoil(x: usize, ribbon: &mut [u8], n: usize) -> usize {
-    if n == 0 {
-        return x;
+// One band becomes another.
+fn spoil(ribbon: &mut [u8], draws: &mut Draws) {
+    if ribbon.is_empty() {
+        return;
     }
-    let y = next(x);
-    put(ribbon, y % n, b'Z');
-    y
+    let at = draws.next() % ribbon.len();
+    ribbon[at] = b'Z';
 }
 
-// A laid ribbon of n bands is supplied as it is, or one band short, with a wrong band, with one band more, or turned.
-pub fn supply(x: usize, ribbon: &mut [u8], n: usize) -> Supplied {
-    let mut y = next(x);
-    let mut length = n;
-    match y % 6 {
-        2 => {
-            length = minus(n, 1);
+// A computed ribbon is supplied as it is, or changed.
+pub fn supply(computed: &[u8], draws: &mut Draws) -> ArrayVec<u8, ROOM> {
+    let mut ribbon = ArrayVec::new();
+    let _ = ribbon.try_extend_from_slice(computed);
+    match CHANGES[draws.below(6)] {
+        Change::Kept => {}
+        Change::OneShort => {
+            let _ = ribbon.pop();
         }
-        3 => {
-            y = spoil(y, ribbon, n);
+        Change::OneWrong => spoil(ribbon.as_mut_slice(), draws),
+        Change::OneMore => {
+            let _ = ribbon.try_push(b'A');
         }
-        4 => {
-            put(ribbon, n, b'A');
-            length = plus(n, 1);
-        }
-        5 => turn(ribbon, n),
-        _ => {}
+        Change::Turned => ribbon.as_mut_slice().reverse(),
     }
-    Supplied { x: y, length }
+    ribbon
 }

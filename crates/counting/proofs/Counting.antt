@@ -2,13 +2,13 @@
 -- and from the next start on the count goes on.
 use mathlib.Core.Path.{◌≡◌, refl, sym, subst, ◌∙◌}
 use mathlib.Core.Logic.{◌⊎◌, inl, inr}
-use mathlib.Core.Bool.{Bool, true, false, ◌||◌}
+use mathlib.Core.Bool.{Bool, ◌||◌}
 use mathlib.Core.List.{List, []}
-use Prim.Native.Nat.{ℕ, suc, ◌+◌, ◌-◌, ◌≤◌, ◌<◌}
+use Prim.Native.Nat.{ℕ, suc, ◌+◌, ◌-◌, ◌≤◌, ◌<◌, max}
 use native.Mathlib.Omega.{arith}
-use lib.Dec.{eqb, leb}
+use lib.Dec.{eqb}
+use Rattle.std.specs.Int.{from_bool}
 use lib.ListN.{length, get_or}
-use Rattle.words.specs.Tests.{pick}
 use Rattle.words.specs.Decides.{Decides, yes, no}
 use Rattle.words.specs.Stand.{StandsHere}
 use Rattle.words.specs.Falling.{Advances}
@@ -33,11 +33,7 @@ pub record Counting (turn : List ℕ → List ℕ) (c s : List ℕ) (p e g t n :
 
 -- what a band counts for
 abbrev pub whole : List ℕ → ℕ → ℕ → ℕ
-whole c g t = pick (eqb g (length c) || eqb t (length c)) 1 0
-
-pub one_at_most : (d : Bool) → pick d 1 0 ≤ 1
-one_at_most true = omega arith
-one_at_most false = omega arith
+whole c g t = from_bool (eqb g (length c) || eqb t (length c))
 
 -- a word longer than the row stands nowhere
 pub counting_short : (turn : List ℕ → List ℕ) (c s : List ℕ) → length (turn c) ≡ length c → length s < length c
@@ -68,7 +64,7 @@ module _ {turn : List ℕ → List ℕ} {c s : List ℕ} (as_long : length (turn
         let b = open_in q.both.turned in
         (a.0, omega (arith, as_long, b.0), a.1, b.1, q.both.given.within)
 
-    counting_skip : {w r y z : ℕ} → r ≡ pick (leb g t) t g → y ≡ total c → z ≡ total (turn c)
+    counting_skip : {w r y z : ℕ} → r ≡ max g t → y ≡ total c → z ≡ total (turn c)
         → Skipped s (length c) y z p (e - r) w → Counting turn c s w e g t n
     counting_skip f u v l =
         record {
@@ -168,14 +164,14 @@ module _ {turn : List ℕ → List ℕ} {c s : List ℕ} (as_long : length (turn
       pub counting_more : {m : ℕ} → m ≡ whole c u v → Counting turn c s p (e + 1) u v (n + m)
       counting_more {m} w = by (decides_or (is_eq u (length c)) (is_eq v (length c))) w
         where
-          by : {d : Bool} → Decides ((u ≡ length c) ⊎ (v ≡ length c)) d → m ≡ pick d 1 0
+          by : {d : Bool} → Decides ((u ≡ length c) ⊎ (v ≡ length c)) d → m ≡ from_bool d
               → Counting turn c s p (e + 1) u v (n + m)
           by (yes z) r = rw r (hit z)
           by (no z) r = let o : n ≡ n + m = omega arith in subst (Counting turn c s p (e + 1) u v) o (miss z)
 
   -- where the next band is taken: behind the starts that do not fit, if those are behind all bands passed
   pub counting_here : {p e g t n w sum r y z u v x : ℕ} → Counting turn c s p e g t n → e < length s
-      → r ≡ pick (leb g t) t g → y ≡ total c → z ≡ total (turn c)
+      → r ≡ max g t → y ≡ total c → z ≡ total (turn c)
       → Windowed s (length c) w sum × Skipped s (length c) y z p (e - r) w → Moved w e g t u v x
       → (e ≤ u) × (u < length s) × Counting turn c s w u v x n
   counting_here q l f a b k m = counting_moved (counting_skip q f a b k.1) (omega (arith, k.0.within)) l m

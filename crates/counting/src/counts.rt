@@ -1,53 +1,42 @@
 // How often a word stands on a row.
-ghost use Rattle.std.specs.Prelude.{◌≡◌, ◌||◌, ◌≤◌, ◌<◌, eqb, length};
-ghost use Rattle.words.specs.Tests.{pick};
+ghost use Rattle.std.specs.Prelude.{◌≡◌, ◌==◌, ◌||◌, ◌≤◌, ◌<◌, length};
 ghost use Rattle.words.specs.Turn.{turned};
 ghost use Rattle.words.specs.Count.{count_of};
 ghost use Rattle.counting.specs.Moves.{Moved};
 
-use matching::{fall_backs, go_on};
-use windows::{longer, next_fit, sums_of, window_at};
-
-// One way or the other, of a size, is held whole.
-fn ends_here(given: usize, turned: usize, size: usize) -> bool
-    ensures { result ≡ (eqb given size || eqb turned size) }
-{
-    if given == size {
-        return true;
-    }
-    turned == size
-}
-
-// What a start counts for: once, whichever ways stand there.
-fn once(stands: bool) -> usize
-    ensures { result ≡ pick stands 1 0 }
-{
-    if stands {
-        return 1;
-    }
-    0
-}
+use matching::{Form, Pattern};
+use windows::{next_fit, sums_of, window_at};
 
 // A pass: how many bands it has passed, and how many of each way are held there.
-#[derive(Drop)]
+#[derive(Clone, Copy)]
 struct Pass {
     end: usize,
     given: usize,
     turned: usize,
 }
 
-// On to a start behind all bands passed, where nothing is held; else it stays.
-fn moved(at: Pass, start: usize) -> Pass
-    ensures { Moved start at.end at.given at.turned result.end result.given result.turned }
-{
-    if at.end <= start {
-        return Pass {
-            end: start,
-            given: 0,
-            turned: 0,
-        };
+impl Pass {
+    // On to a start behind all bands passed, where nothing is held; else it stays.
+    fn moved(self, start: usize) -> Pass
+        ensures { Moved start self.end self.given self.turned result.end result.given result.turned }
+    {
+        if self.end <= start {
+            Pass {
+                end: start,
+                given: 0,
+                turned: 0,
+            }
+        } else {
+            self
+        }
     }
-    at
+
+    // One way or the other, of n bands, is held whole.
+    fn is_whole(self, n: usize) -> bool
+        ensures { result ≡ (self.given == n || self.turned == n) }
+    {
+        self.given == n || self.turned == n
+    }
 }
 
 // The number of starts at which c stands on s, either way, each start once: one pass along s holds the longest beginning of
@@ -61,22 +50,29 @@ pub fn count_places(c: &[u8], s: &[u8]) -> usize
     if s.len() < n {
         return 0;
     }
-    let falls = fall_backs(c, false);
-    let turned_falls = fall_backs(c, true);
+    let given = Pattern::of(Form::given(c));
+    let turned = Pattern::of(Form::turned(c));
     let sums = sums_of(c);
     let mut w = window_at(s, 0, n);
-    let mut given = 0;
-    let mut turned = 0;
     let mut count = 0;
-    let mut end = 0;
-    while end < s.len() {
-        w = next_fit(s, n, sums, w, end - longer(given, turned));
-        let at = moved(Pass { end, given, turned }, w.start);
-        let here = at.end;
-        given = go_on(c, false, &falls, at.given, s[here]);
-        turned = go_on(c, true, &turned_falls, at.turned, s[here]);
-        end = here + 1;
-        count += once(ends_here(given, turned, n));
+    let mut pass = Pass {
+        end: 0,
+        given: 0,
+        turned: 0,
+    };
+    // An index: the pass leaves out the bands before the next start that fits.
+    while pass.end < s.len() {
+        w = next_fit(s, n, sums, w, pass.end - pass.given.max(pass.turned));
+        let at = pass.moved(w.start);
+        let x = s[at.end];
+        pass = Pass {
+            end: at.end + 1,
+            given: given.go_on(at.given, x),
+            turned: turned.go_on(at.turned, x),
+        };
+        // A start counts once, whichever ways stand there.
+        let once = usize::from(pass.is_whole(n));
+        count += once;
     }
     count
 }

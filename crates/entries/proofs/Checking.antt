@@ -1,83 +1,22 @@
--- A row that was read, with its fault: 2 where it breaks the grammar, 3 where it has not two fields, else that of its
--- fields.
-use mathlib.Core.Path.{◌≡◌, sym, ap, ◌∙◌}
+-- The faults of two fields.
+use mathlib.Core.Path.{◌≡◌, refl, sym, ap, ◌∙◌}
 use mathlib.Core.Logic.{◌≢◌}
 use mathlib.Core.Bool.{Bool, true, false, not, ◌&&◌}
 use mathlib.Core.List.{List}
-use Prim.Native.Nat.{ℕ, ◌+◌, ◌≤◌, ◌<◌}
-use native.Mathlib.Omega.{arith}
+use Prim.Native.Nat.{ℕ, ◌≤◌, ◌<◌}
 use lib.Dec.{eqb, ltb, leb}
-use lib.ListN.{length, drop}
-use borrow.Author.Tests.{eq-eqb, ne_eqb, le-ltb, le-leb, lt-leb}
+use lib.ListN.{length}
+use borrow.Author.Tests.{ne_eqb, le-ltb, le-leb, lt-leb}
 use Rattle.words.specs.Tests.{same}
-use Rattle.lists.specs.Refusals.{broken_row_number, wrong_width_number, wrong_heading_number, bad_name_number}
+use Rattle.words.proofs.Deciding.{is_same, refuses}
+use Rattle.lists.specs.Refusals.{wrong_heading_number, bad_name_number}
 use Rattle.lists.specs.Refusals.{no_bands_number, long_code_number, unknown_colour_number}
 use Rattle.lists.specs.Refusals.{name_taken_number, list_full_number, when, first_of}
 use Rattle.lists.specs.Fit.{is_in, all_bands_lem, name_ok_lem}
 use Rattle.grammar.specs.Files.{word_name, word_code}
-use Rattle.grammar.specs.Rows.{Row, first_row}
-use Rattle.grammar.specs.Orders.{name_in, code_in, head_fault_lem, entry_fault_lem, row_fault}
-use Rattle.rows.specs.Scans.{part_of, ReadsRow}
-use Rattle.entries.specs.Gathering.{fields_fault_lem, ChecksRow}
-use Rattle.rows.specs.declared.scan.RowRead.{RowRead}
+use Rattle.grammar.specs.Orders.{head_fault_lem, entry_fault_lem}
 use Rattle.lists.specs.Runs.{codes_in}
-use Rattle.lists.proofs.Runs.{up_to, part_to, codes_count}
-
-module _ (of_two : List ℕ → List ℕ → ℕ) (x : Row) where
-  fault_broken : x.good ≡ false → row_fault of_two x ≡ broken_row_number
-  fault_broken g = rw g
-
-  fault_wide : x.good ≡ true → length x.fields ≢ 2 → row_fault of_two x ≡ wrong_width_number
-  fault_wide g h = rw (g, ne_eqb (length x.fields) 2 h)
-
-  fault_two : x.good ≡ true → length x.fields ≡ 2 → row_fault of_two x ≡ of_two (name_in x) (code_in x)
-  fault_two g h = rw (g, eq-eqb (length x.fields) 2 h)
-
-module _ (of_two : List ℕ → List ℕ → ℕ) {file names names' bands bands' : List ℕ} {at nmark bmark : ℕ} {r : RowRead}
-    (h : ReadsRow file at names names' nmark bands bands' bmark r) where
-  abbrev here : Row
-  here = first_row (drop at file)
-
-  pub checks_broken : r.good ≡ false
-      → ChecksRow file at of_two names names' nmark bands bands' bmark (record { fault = 2; name = 0; code = 0; next = at })
-  checks_broken g = record {
-    names_kept = h.names_kept;
-    bands_kept = h.bands_kept;
-    fault = sym (fault_broken of_two here (sym h.good ∙ g));
-    found = λ z. absurd (omega arith);
-  }
-
-  module _ (g : r.good ≡ true) where
-    pub checks_wide : r.fields ≢ 2
-        → ChecksRow file at of_two names names' nmark bands bands' bmark (record { fault = 3; name = 0; code = 0; next = at })
-    checks_wide w = record {
-      names_kept = h.names_kept;
-      bands_kept = h.bands_kept;
-      fault = sym (fault_wide of_two here (sym h.good ∙ g) (λ e. w ((h.found (sym h.good ∙ g)).width ∙ e)));
-      found = λ z. absurd (omega arith);
-    }
-
-    pub checks_two : (f : ℕ) → r.fields ≡ 2 → f ≡ of_two (part_of names' nmark r.name) (part_of bands' bmark r.code)
-        → ChecksRow file at of_two names names' nmark bands bands' bmark
-        (record { fault = f; name = r.name; code = r.code; next = r.next })
-    checks_two f w e =
-        let good : here.good ≡ true = sym h.good ∙ g in
-        let found = h.found good in
-        let two : length here.fields ≡ 2 = sym found.width ∙ w in
-        record {
-          names_kept = h.names_kept;
-          bands_kept = h.bands_kept;
-          fault = cc (e, fault_two of_two here good two, found.name_is two, found.code_is two);
-          found = λ z. record {
-            rest = found.rest;
-            within = found.within;
-            onward = found.onward;
-            name_fits = found.name_fits;
-            code_fits = found.code_fits;
-            name_is = found.name_is two;
-            code_is = found.code_is two;
-          };
-        }
+use Rattle.lists.proofs.Runs.{codes_count}
 
 -- The fields' own fault, by its tests.
 abbrev by_tests : Bool → Bool → Bool → Bool → Bool → Bool → ℕ
@@ -108,15 +47,13 @@ module _ (run ls n c : List ℕ) (named : name_ok_lem n ≡ true) (some : length
   pub no_fault : length ls < 128 → 0 ≡ entry_fault_lem (codes_in run ls) n c
   no_fault h = last_test (lt-leb 128 (length ls) h)
 
-pub head_fault_by : (n c : List ℕ) {a b : Bool} → same n word_name ≡ a → same c word_code ≡ b
-    → when (not (a && b)) wrong_heading_number ≡ head_fault_lem n c
-head_fault_by n c h1 h2 = sym (cc)
+-- Another heading, by either field.
+pub other_name : (n c : List ℕ) → n ≢ word_name → wrong_heading_number ≡ head_fault_lem n c
+other_name n c h = rw (refuses (is_same n word_name) h)
 
-module _ (ns : List (List ℕ)) (names bands : List ℕ) (nmark nsize bmark bsize : ℕ) {first : Bool} {r : ℕ} where
-  pub in_heading : first ≡ true → r ≡ head_fault_lem (up_to names nmark (nmark + nsize)) (up_to bands bmark (bmark + bsize))
-      → r ≡ fields_fault_lem first ns (part_of names nmark nsize) (part_of bands bmark bsize)
-  in_heading f e = rw f (e ∙ cc (part_to names nmark nsize, part_to bands bmark bsize))
-
-  pub in_entry : first ≡ false → r ≡ entry_fault_lem ns (up_to names nmark (nmark + nsize)) (up_to bands bmark (bmark + bsize))
-      → r ≡ fields_fault_lem first ns (part_of names nmark nsize) (part_of bands bmark bsize)
-  in_entry f e = rw f (e ∙ cc (part_to names nmark nsize, part_to bands bmark bsize))
+pub other_code : (n c : List ℕ) → c ≢ word_code → wrong_heading_number ≡ head_fault_lem n c
+other_code n c h = go (same n word_name)
+  where
+    go : (t : Bool) → wrong_heading_number ≡ when (not (t && same c word_code)) wrong_heading_number
+    go true = rw (refuses (is_same c word_code) h)
+    go false = refl

@@ -1,26 +1,32 @@
 -- From row to row the answer for the file stays what it is: what the loop over entries keeps, how it begins, goes on and
 -- ends.
-use mathlib.Core.Path.{◌≡◌, refl, sym, ap, ◌∙◌}
+use mathlib.Core.Path.{◌≡◌, sym, ap, ◌∙◌}
 use mathlib.Core.Logic.{◌≢◌}
-use mathlib.Core.Bool.{Bool}
-use mathlib.Core.List.{List, []}
-use Prim.Native.Nat.{ℕ, zero, suc, ◌+◌, ◌-◌, ◌≤◌, ◌<◌}
+use mathlib.Core.Bool.{Bool, false}
+use mathlib.Core.List.{List, [], ◌++◌}
+use Prim.Native.Nat.{ℕ, zero, suc, ◌+◌, ◌≤◌, ◌<◌}
 use native.Mathlib.Omega.{arith}
 use lib.Dec.{eqb}
 use lib.ListN.{length, take, drop, set, length-drop, length-set}
+use lib.Seq.{length-take-le}
 use borrow.Author.Tests.{eq-eqb, ne_eqb, le-ltb}
 use Rattle.words.specs.Tests.{pick}
+use Rattle.words.proofs.Deciding.{is_eq, fails}
 use Rattle.lists.specs.Refusals.{empty_list_number}
 use Rattle.lists.specs.Runs.{codes_in}
 use Rattle.grammar.specs.Files.{Orders, orders, bad, add}
 use Rattle.grammar.specs.Rows.{first_row}
 use Rattle.grammar.specs.Orders.{head_fault_lem, entry_fault_lem, name_in, code_in, row_fault, rows_from, read_orders_lem}
-use Rattle.entries.specs.Gathering.{ChecksRow, entries_from, Roomy, Filed, Gathers, refused_with}
-use Rattle.entries.specs.declared.checks.Checked.{Checked}
-use Rattle.entries.specs.declared.collect.Gathered.{Gathered}
+use Rattle.rows.specs.Scans.{RowFound}
+use Rattle.rows.specs.declared.scan.RowRead.{RowRead}
+use Rattle.entries.specs.Gathering.{ChecksRow, Roomy}
+use Rattle.std.specs.Prelude.{Result, Ok, Err}
+use Rattle.lists.specs.Answers.{number_of, number_told}
+use Rattle.lists.specs.declared.numbers.Fault.{Fault}
+use Rattle.lists.proofs.Table.{some_number}
 use Rattle.grammar.proofs.Faults.{of_entry, sound_row}
 use Rattle.grammar.proofs.Entries.{name_kept, code_kept, room}
-use Rattle.entries.proofs.Filing.{filed_none, filed_count, filed_words, filed_add, length_part}
+use Rattle.entries.proofs.Filing.{Filing, filed_none, filed_count, filed_words, filed_length, filed_add}
 
 -- The definition, step by step: at the end, at a faulty row, and past an entry.
 module _ (f k : ℕ) (ns cs : List (List ℕ)) (s : List ℕ) where
@@ -38,187 +44,140 @@ module _ (f k : ℕ) (ns cs : List (List ℕ)) (s : List ℕ) where
   rows_on h e = cc (ne_eqb (length s) 0 h, eq-eqb (row_fault (entry_fault_lem ns) (first_row s)) 0 e)
 
 module _ (s : List ℕ) (few : length s ≤ 16384) (some : length s ≢ 0) where
-  head_bad : row_fault head_fault_lem (first_row s) ≢ 0 → read_orders_lem s ≡ bad (row_fault head_fault_lem (first_row s)) 1
-  head_bad e =
-      cc
-      (le-ltb 16384 (length s) few, ne_eqb (length s) 0 some, ne_eqb (row_fault head_fault_lem (first_row s)) 0 e)
-
   head_good : row_fault head_fault_lem (first_row s) ≡ 0
       → read_orders_lem s ≡ rows_from (suc (length s)) 2 [] [] (first_row s).rest
   head_good e =
       cc
       (le-ltb 16384 (length s) few, ne_eqb (length s) 0 some, eq-eqb (row_fault head_fault_lem (first_row s)) 0 e)
 
--- What the loop keeps, for the answer x: the words so far are filed, the rows from here on give x, and what is left of
--- the file fits behind both marks.
-pub record Going (x : Orders) (file bands ls names sizes : List ℕ) (at count bmark nmark : ℕ) : Type 0 where
+-- What the loop keeps, for the answer x: the words so far are filed, the rows that are left give x, and they fit behind both
+-- marks.
+pub record Going (x : Orders) (rest bands ls names sizes : List ℕ) (count bmark nmark : ℕ) : Type 0 where
   pub ns : List (List ℕ)
   pub cs : List (List ℕ)
   pub fuel : ℕ
-  pub goes : rows_from (suc fuel) (2 + count) ns cs (drop at file) ≡ x
-  pub enough : length file - at ≤ fuel
-  pub names_filed : Filed ns names nmark sizes count
-  pub codes_filed : Filed cs bands bmark ls count
+  pub goes : rows_from (suc fuel) (2 + count) ns cs rest ≡ x
+  pub enough : length rest ≤ fuel
+  pub names_filed : Filing ns names nmark sizes count
+  pub codes_filed : Filing cs bands bmark ls count
   pub few : count ≤ 128
-  pub within : at ≤ length file
-  pub name_room : nmark + (length file - at) ≤ length names
-  pub code_room : bmark + (length file - at) ≤ length bands
+  pub name_room : nmark + length rest ≤ length names
+  pub code_room : bmark + length rest ≤ length bands
   pub lengths_room : 128 ≤ length ls
   pub sizes_room : 128 ≤ length sizes
 
--- It begins where no entry is filed yet.
-pub begins : (file : List ℕ) {bands ls names sizes : List ℕ} (at : ℕ) → at ≤ length file → length file ≤ 16384
-    → Roomy bands ls names sizes → Going (entries_from file at) file bands ls names sizes at 0 0 0
-unfolding entries_from
-begins file {bands} {ls} {names} {sizes} at h few r = record {
-  ns = [];
-  cs = [];
-  fuel = length file;
-  goes = refl;
-  enough = omega arith;
-  names_filed = filed_none names sizes;
-  codes_filed = filed_none bands ls;
-  few = omega arith;
-  within = h;
-  name_room = omega arith;
-  code_room = omega arith;
-  lengths_room = omega arith;
-  sizes_room = omega arith;
-}
-
--- Before that the heading is read.
-module _ {file names names' bands bands' : List ℕ} {r : Checked} (few : length file ≤ 16384)
-    (some : 0 < length file) (h : ChecksRow file 0 head_fault_lem names names' 0 bands bands' 0 r) where
-  pub good_heading : r.fault ≡ 0 → read_orders_lem file ≡ entries_from file r.next
-  unfolding entries_from
-  good_heading z =
-      let ne : length file ≢ 0 = λ e. omega arith in
-      rw (h.found z).rest (head_good file few ne (sym h.fault ∙ z))
-
-  pub bad_heading : r.fault ≢ 0 → read_orders_lem file ≡ bad r.fault 1
-  bad_heading e =
-      let ne : length file ≢ 0 = λ e. omega arith in
-      rw h.fault (head_bad file few ne (λ z. e (h.fault ∙ z)))
+-- It begins after the heading, where no entry is filed yet.
+module _ {file names bands : List ℕ} (few : length file ≤ 16384) (some : 0 < length file) where
+  pub begins : {ls sizes : List ℕ} {r : RowRead} → Roomy bands ls names sizes
+      → ChecksRow file head_fault_lem names bands (Ok r)
+      → Going (read_orders_lem file) (drop r.size file) bands ls names sizes 0 0 0
+  begins {ls} {sizes} {r} m h =
+      let k = length-drop r.size file in
+      record {
+        ns = [];
+        cs = [];
+        fuel = length file;
+        goes = rw h.found.row.rest (sym (head_good file few (λ e. omega arith) (sym h.fault)));
+        enough = omega arith;
+        names_filed = filed_none names sizes;
+        codes_filed = filed_none bands ls;
+        few = omega arith;
+        name_room = omega arith;
+        code_room = omega arith;
+        lengths_room = omega arith;
+        sizes_room = omega arith;
+      }
 
 -- It goes on past an entry, or ends at a faulty row.
-module _ {x : Orders} {file bands ls names sizes : List ℕ} {at count bmark nmark : ℕ}
-    (g : Going x file bands ls names sizes at count bmark nmark) where
+module _ {x : Orders} {rest bands ls names sizes : List ℕ} {count bmark nmark : ℕ}
+    (g : Going x rest bands ls names sizes count bmark nmark) where
   abbrev so_far : List (List ℕ)
   so_far = codes_in (take nmark names) (take count sizes)
 
-  abbrev here : List ℕ
-  here = drop at file
+  is_fault : {names' bands' : List ℕ} {r : Result RowRead Fault} → ChecksRow rest (entry_fault_lem so_far) names' bands' r
+      → number_told r ≡ row_fault (entry_fault_lem g.ns) (first_row rest)
+  is_fault h = h.fault ∙ ap (λ ns. row_fault (entry_fault_lem ns) (first_row rest)) (filed_words g.names_filed)
 
-  module _ {names' bands' : List ℕ} {r : Checked} (left : at < length file)
-      (h : ChecksRow file at (entry_fault_lem so_far) names names' nmark bands bands' bmark r) where
-    is_fault : r.fault ≡ row_fault (entry_fault_lem g.ns) (first_row here)
-    is_fault = h.fault ∙ ap (λ ns. row_fault (entry_fault_lem ns) (first_row here)) (filed_words g.names_filed)
+  left : false ≡ eqb (length rest) 0 → length rest ≢ 0
+  left more = fails (is_eq (length rest) 0) (sym more)
 
-    bytes : length here ≢ 0
-    bytes e = omega (arith, length-drop at file)
-
-    pub bad_entry : r.fault ≢ 0 → x ≡ bad r.fault (2 + count)
-    bad_entry e =
+  module _ (more : false ≡ eqb (length rest) 0) {names' bands' : List ℕ} where
+    pub bad_entry : {f : Fault} → ChecksRow rest (entry_fault_lem so_far) names' bands' (Err f)
+        → x ≡ bad (number_of f) (2 + count)
+    bad_entry {f} h =
         sym g.goes
-        ∙ (rows_fault g.fuel (2 + count) g.ns g.cs here bytes (λ z. e (is_fault ∙ z))
-        ∙ ap (λ n. bad n (2 + count)) (sym is_fault))
+        ∙ (rows_fault g.fuel (2 + count) g.ns g.cs rest (left more) (λ z. absurd (omega (arith, is_fault h ∙ z, some_number f)))
+        ∙ ap (λ n. bad n (2 + count)) (sym (is_fault h)))
 
-    module _ (z : r.fault ≡ 0) where
-      -- its fields lie behind the marks
-      name_in_lem : nmark + r.name ≤ length names
-      name_in_lem = let found = h.found z in omega (arith, found.name_fits, found.within, g.name_room)
+    module _ {r : RowRead} (h : ChecksRow rest (entry_fault_lem so_far) names' bands' (Ok r)) where
+      abbrev found : RowFound rest names' bands' (first_row rest) r
+      found = h.found.row
 
-      code_in_lem : bmark + r.code ≤ length bands
-      code_in_lem = let found = h.found z in omega (arith, found.code_fits, found.within, g.code_room)
+      width : length (first_row rest).fields ≡ 2
+      width = sym found.width ∙ h.found.two
 
-      name_size : length (name_in (first_row here)) ≡ r.name
-      name_size =
-          ap length (h.found z).name_is
-          ∙ length_part names' nmark r.name (omega (arith, name_in_lem, h.names_kept.as_long))
+      -- both fields lie in the buffers
+      module _ (name_part : length names' + nmark ≡ length names) (code_part : length bands' + bmark ≡ length bands) where
+        name_within : r.name ≤ length names'
+        name_within = omega (arith, found.name_fits, found.within, g.name_room)
 
-      code_size : length (code_in (first_row here)) ≡ r.code
-      code_size =
-          ap length (h.found z).code_is
-          ∙ length_part bands' bmark r.code (omega (arith, code_in_lem, h.bands_kept.as_long))
+        code_within : r.code ≤ length bands'
+        code_within = omega (arith, found.code_fits, found.within, g.code_room)
 
-      -- the name has at most 24 bytes, the code at most 64, and there is room for one more
-      pub small : (r.name ≤ 24) × (r.code ≤ 64) × (count < 128)
-      small =
-          let sound = (sound_row (of_entry g.ns) here (sym is_fault ∙ z)).1 in
-          let n : count < 128 = omega (arith, room sound, filed_count g.names_filed) in
-          (omega (arith, name_kept sound, name_size), omega (arith, code_kept sound, code_size), n)
+        -- the name has at most 24 bytes, the code at most 64, and there is room for one more
+        pub small : (r.name ≤ 24) × (r.code ≤ 64) × (count < 128)
+        small =
+            let sound = (sound_row (of_entry g.ns) rest (sym (is_fault h))).1 in
+            let n = ap length (found.name_is width) ∙ length-take-le r.name names' name_within in
+            let c = ap length (found.code_is width) ∙ length-take-le r.code bands' code_within in
+            let k : count < 128 = omega (arith, room sound, filed_count g.names_filed) in
+            (omega (arith, name_kept sound, n), omega (arith, code_kept sound, c), k)
 
-      abbrev Onward : Type 0
-      Onward =
-          Going x file bands' (set ls count r.code) names' (set sizes count r.name) r.next (count + 1)
-          (bmark + r.code) (nmark + r.name)
+        module _ {front_names front_bands : List ℕ} (fn : front_names ≡ take nmark names) (fb : front_bands ≡ take bmark bands) where
+          abbrev Onward : Type 0
+          Onward =
+              Going x (drop r.size rest) (front_bands ++ bands') (set ls count r.code) (front_names ++ names')
+              (set sizes count r.name) (count + 1) (bmark + r.code) (nmark + r.name)
 
-      pub goes_on : Onward
-      goes_on = by g.fuel g.goes g.enough
-        where
-          by : (f : ℕ) → rows_from (suc f) (2 + count) g.ns g.cs here ≡ x → length file - at ≤ f → Onward
-          by zero y l = absurd (omega arith)
-          by (suc f) y l =
-              let found = h.found z in
-              let k : 2 + (count + 1) ≡ suc (2 + count) = omega arith in
-              let on = rows_on (suc f) (2 + count) g.ns g.cs here bytes (sym is_fault ∙ z) in
-              let few : count < 128 = small.2 in
-              let n : count < length sizes = omega (arith, g.sizes_room) in
-              let c : count < length ls = omega (arith, g.lengths_room) in
-              record {
-                ns = add g.ns (name_in (first_row here));
-                cs = add g.cs (code_in (first_row here));
-                fuel = f;
-                goes = rw (found.rest, k) (sym on ∙ y);
-                enough = omega (arith, found.onward left, found.within);
-                names_filed = filed_add g.names_filed r.name h.names_kept name_in_lem found.name_is n;
-                codes_filed = filed_add g.codes_filed r.code h.bands_kept code_in_lem found.code_is c;
-                few = omega arith;
-                within = found.within;
-                name_room = omega (arith, found.name_fits, found.within, g.name_room, h.names_kept.as_long);
-                code_room = omega (arith, found.code_fits, found.within, g.code_room, h.bands_kept.as_long);
-                lengths_room = omega (arith, g.lengths_room, length-set ls count r.code);
-                sizes_room = omega (arith, g.sizes_room, length-set sizes count r.name);
-              }
+          pub goes_on : Onward
+          goes_on = by g.fuel g.goes g.enough
+            where
+              by : (f : ℕ) → rows_from (suc f) (2 + count) g.ns g.cs rest ≡ x → length rest ≤ f → Onward
+              by zero y l = absurd (left more (omega arith))
+              by (suc f) y l =
+                  let k : 2 + (count + 1) ≡ suc (2 + count) = omega arith in
+                  let ne = left more in
+                  let on = rows_on (suc f) (2 + count) g.ns g.cs rest ne (sym (is_fault h)) in
+                  let few : count < 128 = small.2 in
+                  let d = length-drop r.size rest in
+                  let ln = filed_length g.names_filed names' fn name_part in
+                  let lb = filed_length g.codes_filed bands' fb code_part in
+                  record {
+                    ns = add g.ns (name_in (first_row rest));
+                    cs = add g.cs (code_in (first_row rest));
+                    fuel = f;
+                    goes = rw (found.rest, k) (sym on ∙ y);
+                    enough = omega (arith, found.onward (omega arith), found.within);
+                    names_filed =
+                        filed_add g.names_filed names' r.name fn name_part name_within (found.name_is width)
+                        (omega (arith, g.sizes_room));
+                    codes_filed =
+                        filed_add g.codes_filed bands' r.code fb code_part code_within (found.code_is width)
+                        (omega (arith, g.lengths_room));
+                    few = omega arith;
+                    name_room = omega (arith, found.name_fits, found.within, g.name_room);
+                    code_room = omega (arith, found.code_fits, found.within, g.code_room);
+                    lengths_room = omega (arith, g.lengths_room, length-set ls count r.code);
+                    sizes_room = omega (arith, g.sizes_room, length-set sizes count r.name);
+                  }
 
   -- It ends with the file.
-  module _ (over : length file ≤ at) where
+  module _ (over : length rest ≡ 0) where
     abbrev by_count : Bool → Orders
     by_count none = pick none (bad empty_list_number 0) (orders 0 0 g.ns g.cs)
 
     at_end : x ≡ by_count (eqb (length g.cs) 0)
-    at_end =
-        sym g.goes
-        ∙ rows_end g.fuel (2 + count) g.ns g.cs (drop at file) (omega (arith, length-drop at file))
+    at_end = sym g.goes ∙ rows_end g.fuel (2 + count) g.ns g.cs rest over
 
     pub no_entries : count ≡ 0 → x ≡ bad empty_list_number 0
     no_entries e = at_end ∙ ap by_count (eq-eqb (length g.cs) 0 (omega (arith, filed_count g.codes_filed)))
-
-    all_entries : count ≢ 0 → x ≡ orders 0 0 g.ns g.cs
-    all_entries e =
-        at_end ∙ ap by_count (ne_eqb (length g.cs) 0 (λ q. e (omega (arith, filed_count g.codes_filed))))
-
-    pub gathered : count ≢ 0
-        → Gathers x bands ls names sizes (record { number = 0; row = 0; codes = count; bands = bmark; names = nmark })
-    gathered e = rw (all_entries e) (record {
-      number = refl;
-      row = refl;
-      whole = λ z. refl;
-      codes_filed = g.codes_filed;
-      names_filed = g.names_filed;
-    })
-
--- A refusal gathers nothing.
-pub gathers_bad : {x : Orders} {r : Gathered} {n k : ℕ} (bands ls names sizes : List ℕ) → x ≡ bad n k → n ≢ 0
-    → r ≡ refused_with n k → Gathers x bands ls names sizes r
-gathers_bad bands ls names sizes e h q = rw (e, q) (record {
-  number = refl;
-  row = refl;
-  whole = λ z. absurd (h z);
-  codes_filed = filed_none bands ls;
-  names_filed = filed_none names sizes;
-})
-
-pub gathers_same : {x y : Orders} {bands ls names sizes : List ℕ} {r : Gathered} → x ≡ y
-    → Gathers y bands ls names sizes r → Gathers x bands ls names sizes r
-gathers_same e g = rw e g

@@ -1,90 +1,56 @@
 // Row after row: the names and codes of a file, one behind the other.
-ghost use Rattle.std.specs.Prelude.{◌≡◌, ◌≤◌, ◌<◌, length};
+ghost use Rattle.std.specs.Prelude.{◌≤◌, ◌<◌, length};
 ghost use Rattle.grammar.specs.Orders.{read_orders_lem};
-ghost use Rattle.entries.specs.Gathering.{entries_from, Roomy, Gathers, refused_with};
+ghost use Rattle.entries.specs.Gathering.{Roomy, Gathers};
 
-use crate::checks::check_row;
+use crate::checks::{check_entry, check_heading};
+use lists::{Fault, Refusal, Run};
 
-// The answer for a file: a refusal's number and row, or 0 and 0 with how many codes, bands and bytes of names were
-// gathered.
-#[derive(Drop)]
-pub struct Gathered {
-    pub number: u8,
-    pub row: u32,
-    pub codes: usize,
-    pub bands: usize,
-    pub names: usize,
+// What an order list holds: its codes, and a name for each.
+#[derive(Clone, Copy)]
+pub struct Gathered<'a> {
+    pub codes: Run<'a>,
+    pub names: Run<'a>,
 }
 
-// The heading, then the entries.
-pub fn gather(
+// The heading, then the entries: each faultless entry is gathered in the buffers behind those before it.
+// Four buffers and no struct of them (tried): a struct's run, lent in two parts, bars its lengths from being lent too.
+pub fn gather<'a>(
     file: &[u8],
-    bands: &mut [u8],
-    lengths: &mut [u16],
-    names: &mut [u8],
-    sizes: &mut [u16],
-) -> Gathered
+    bands: &'a mut [u8],
+    lengths: &'a mut [u16],
+    names: &'a mut [u8],
+    sizes: &'a mut [u16],
+) -> Result<Gathered<'a>, Refusal>
     requires { (0 < length file.now) × (length file.now ≤ 16384) × Roomy bands.old lengths.old names.old sizes.old }
-    ensures { Gathers (read_orders_lem file.now) bands.new lengths.new names.new sizes.new result }
+    ensures { Gathers (read_orders_lem file.now) result }
 {
-    let head = check_row(file, 0, true, names, 0, &sizes[..0], bands, 0);
-    let fault = head.fault;
-    if fault != 0 {
-        return refused(fault, 1);
+    let head = check_heading(file, names, bands).map_err(|fault| Refusal { fault, row: 1 })?;
+    let mut rest = &file[head.size..];
+    let mut codes: usize = 0;
+    let mut code_end: usize = 0;
+    let mut name_end: usize = 0;
+    while !rest.is_empty() {
+        let (bytes, next_name) = names.split_at_mut(name_end);
+        let (_, next_code) = bands.split_at_mut(code_end);
+        let before = Run::new(bytes, &sizes[..codes]);
+        let line = (2 + codes) as u32;
+        let row = check_entry(rest, before, next_name, next_code).map_err(|fault| Refusal {
+            fault,
+            row: line,
+        })?;
+        lengths[codes] = row.code as u16;
+        sizes[codes] = row.name as u16;
+        code_end += row.code;
+        name_end += row.name;
+        codes += 1;
+        rest = &rest[row.size..];
     }
-    gather_entries(file, head.next, bands, lengths, names, sizes)
-}
-
-// Row after row from a position on: each faultless entry is gathered behind those before it.
-fn gather_entries(
-    file: &[u8],
-    start: usize,
-    bands: &mut [u8],
-    lengths: &mut [u16],
-    names: &mut [u8],
-    sizes: &mut [u16],
-) -> Gathered
-    requires { (start ≤ length file.now) × (length file.now ≤ 16384) × Roomy bands.old lengths.old names.old sizes.old }
-    ensures { Gathers (entries_from file.now start) bands.new lengths.new names.new sizes.new result }
-{
-    let mut at = start;
-    let mut count: usize = 0;
-    let mut bmark: usize = 0;
-    let mut nmark: usize = 0;
-    while at < file.len() {
-        let row = check_row(file, at, false, names, nmark, &sizes[..count], bands, bmark);
-        let fault = row.fault;
-        if fault != 0 {
-            return refused(fault, (2 + count) as u32);
-        }
-        lengths[count] = row.code as u16;
-        sizes[count] = row.name as u16;
-        bmark += row.code;
-        nmark += row.name;
-        count += 1;
-        at = row.next;
+    if codes == 0 {
+        return Err(Fault::EmptyList.into());
     }
-    if count == 0 {
-        return refused(lists::EMPTY_LIST, 0);
-    }
-    Gathered {
-        number: 0,
-        row: 0,
-        codes: count,
-        bands: bmark,
-        names: nmark,
-    }
-}
-
-// Refused: nothing is gathered.
-fn refused(number: u8, row: u32) -> Gathered
-    ensures { result ≡ refused_with number row }
-{
-    Gathered {
-        number,
-        row,
-        codes: 0,
-        bands: 0,
-        names: 0,
-    }
+    Ok(Gathered {
+        codes: Run::new(&bands[..code_end], &lengths[..codes]),
+        names: Run::new(&names[..name_end], &sizes[..codes]),
+    })
 }

@@ -1,68 +1,80 @@
--- The pass over the faces of parts: while no join of more than o bands is allowed, the faces that begin with the last o
--- bands of a are those with overlap o from a.
-use mathlib.Core.Path.{◌≡◌, subst, ◌∙◌}
+-- The pass over the faces of codes: while no join of more than o bands is allowed, the faces that begin with the last o bands
+-- of a are those with overlap o from a.
+use mathlib.Core.Path.{◌≡◌, refl, subst}
+use mathlib.Core.Bool.{Bool, true, false}
 use mathlib.Core.List.{List}
-use Prim.Native.Nat.{ℕ, ◌+◌, ◌*◌, ◌≤◌, ◌<◌}
+use Prim.Native.Nat.{ℕ, ◌+◌, ◌*◌, ◌/◌, ◌%◌, ◌≤◌, ◌<◌}
 use native.Mathlib.Omega.{arith}
-use lib.ListN.{get_or, set}
+use lib.Dec.{eqb}
+use lib.ListN.{length, get_or, set}
+use Rattle.std.proofs.Common.{Some, None}
+use Rattle.words.specs.Turn.{turned}
+use Rattle.words.specs.Tests.{pick}
 use Rattle.words.specs.Overlap.{Shares}
-use Rattle.words.proofs.Overlaps.{overlap_shares, overlap_longest}
+use Rattle.words.proofs.Turning.{turning}
+use Rattle.words.proofs.Overlaps.{overlap_shares, overlap_longest, overlap_right}
 use Rattle.joins.specs.Faces.{mirror}
 use Rattle.joins.specs.Rows.{Unjoined, EndsAt}
 use Rattle.joins.specs.Pass.{PassedRow, Joinable}
 use Rattle.joins.proofs.Passing.{row_start, row_none, row_made}
-use Rattle.parts.specs.Parts.{face_at, part_shared, InRun}
+use Rattle.greedy.specs.Dropping.{code_at}
+use Rattle.greedy.specs.Reading.{face_of, shared}
+use Rattle.parts.specs.Parts.{FewCodes}
 use Rattle.faces.specs.Passing.{Follows, LowestFollows}
-use Rattle.parts.proofs.Parts.{shared_is, shared_short}
 
-module _ {run starts sizes : List ℕ} {n : ℕ} (in_run : InRun run starts sizes n) where
+module _ (ks : List (List ℕ)) where
+  face_size : (f : ℕ) → length (face_of turned ks f) ≡ length (code_at ks (f / 2))
+  face_size f = way (eqb (f % 2) 0)
+    where
+      way : (t : Bool) → length (pick t (code_at ks (f / 2)) (turned (code_at ks (f / 2)))) ≡ length (code_at ks (f / 2))
+      way true = refl
+      way false = turning.as_long (code_at ks (f / 2))
+
   -- before any join: no face has more than 64 bands
-  pub pass_begun : {after : List ℕ} → Unjoined n after → PassedRow n (part_shared run starts sizes n) after 65 (2 * n)
-  pass_begun u =
+  pub pass_begun : {after : List ℕ} → FewCodes ks → Unjoined (length ks) after
+      → PassedRow (length ks) (shared turned ks) after 65 (2 * length ks)
+  pass_begun few u =
       row_start u
-      (λ c d lc ld. omega (arith, shared_is run starts sizes in_run lc ld, shared_short run starts sizes in_run lc ld))
+      (λ c d lc ld. omega (
+        arith,
+        overlap_right (face_of turned ks c) (face_of turned ks d),
+        face_size d,
+        few.short (d / 2) (omega arith),
+      ))
 
+module _ {ks : List (List ℕ)} {after : List ℕ} {a o head : ℕ} where
   -- what follows can be joined, and has at least so large an overlap
-  follows_joins : {after : List ℕ} {a o head b : ℕ} → Follows run starts sizes n after a o head b
-      → Joinable n after a head b
+  follows_joins : {b : ℕ} → Follows ks after a o head b → Joinable (length ks) after a head b
   follows_joins f =
       record { within = f.within; begins = f.begins; unclosed = f.unclosed; unmirrored = f.unmirrored }
 
-  follows_large : {after : List ℕ} {a o head b : ℕ} → a < 2 * n → Follows run starts sizes n after a o head b
-      → o ≤ part_shared run starts sizes n a b
-  follows_large {a = a} {o} {b = b} la f =
-      let x = face_at run starts sizes a in
-      let y = face_at run starts sizes b in
-      omega (arith, overlap_longest x y o f.shares, shared_is run starts sizes in_run la f.within)
+  follows_large : {b : ℕ} → Follows ks after a o head b → o ≤ shared turned ks a b
+  follows_large {b} f = overlap_longest (face_of turned ks a) (face_of turned ks b) o f.shares
 
   -- and what can be joined with just that overlap follows
-  joins_follow : {after : List ℕ} {a o head b : ℕ} → a < 2 * n → Joinable n after a head b
-      → part_shared run starts sizes n a b ≡ o → Follows run starts sizes n after a o head b
-  joins_follow {a = a} {o} {b = b} la j e =
-      let x = face_at run starts sizes a in
-      let y = face_at run starts sizes b in
+  joins_follow : {b : ℕ} → Joinable (length ks) after a head b → shared turned ks a b ≡ o → Follows ks after a o head b
+  joins_follow {b} j e =
+      let x = face_of turned ks a in
+      let y = face_of turned ks b in
       record {
         within = j.within;
-        shares = subst (Shares x y) (shared_is run starts sizes in_run la j.within ∙ e) (overlap_shares x y);
+        shares = subst (Shares x y) e (overlap_shares x y);
         begins = j.begins;
         unclosed = j.unclosed;
         unmirrored = j.unmirrored;
       }
 
   -- the join from a, found or not
-  module _ {after : List ℕ} {o a m e head b : ℕ} (P : PassedRow n (part_shared run starts sizes n) after o a)
-      (la : a < 2 * n) (open-a : get_or after a 0 ≡ 0) (m-is : m ≡ mirror a) (at : EndsAt n after m e)
-      (head_is : head ≡ mirror e) (f : LowestFollows run starts sizes n after a o head b) where
-    pub none_follows : 2 * n ≤ b → PassedRow n (part_shared run starts sizes n) after o (a + 1)
-    none_follows l =
-        row_none P la open-a m-is at head_is
-        (λ d j q. omega (arith, f.lowest d (joins_follow la j q), j.within))
+  module _ {m e : ℕ} (P : PassedRow (length ks) (shared turned ks) after o a) (la : a < 2 * length ks)
+      (open-a : get_or after a 0 ≡ 0) (m-is : m ≡ mirror a) (at : EndsAt (length ks) after m e) (head_is : head ≡ mirror e) where
+    pub none_follows : LowestFollows ks after a o head None → PassedRow (length ks) (shared turned ks) after o (a + 1)
+    none_follows none = row_none P la open-a m-is at head_is (λ d j q. none d (joins_follow j q))
 
-    pub one_follows : {new : List ℕ} → b < 2 * n → new ≡ set (set after (mirror b) (mirror a + 1)) a (b + 1)
-        → PassedRow n (part_shared run starts sizes n) new o (a + 1)
-    one_follows l made =
+    pub one_follows : {new : List ℕ} (b : ℕ) → LowestFollows ks after a o head (Some b)
+        → new ≡ set (set after (mirror b) (mirror a + 1)) a (b + 1) → PassedRow (length ks) (shared turned ks) new o (a + 1)
+    one_follows b f made =
         row_made P la open-a m-is at head_is
-        (follows_joins (f.follows l))
-        (follows_large la (f.follows l))
-        (λ d j q. f.lowest d (joins_follow la j q))
+        (follows_joins f.0)
+        (follows_large f.0)
+        (λ d j q. f.1 d (joins_follow j q))
         made

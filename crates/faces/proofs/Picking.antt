@@ -1,104 +1,71 @@
--- The lowest face that may follow: one face after another is passed, and those that share enough bands are the range that
--- was searched.
+-- The lowest face that may follow: one face after another is passed.
 use mathlib.Core.Path.{◌≡◌, refl, sym, ◌∙◌}
+use mathlib.Core.Logic.{◌⊎◌, inl, inr}
 use mathlib.Core.List.{List}
-use Prim.Native.Nat.{ℕ, ◌+◌, ◌*◌, ◌/◌, ◌≤◌, ◌<◌}
+use Prim.Native.Nat.{ℕ, ◌+◌, ◌≤◌}
 use native.Mathlib.Omega.{arith}
 use native.Mathlib.Decide.{ℕ_discrete, dec_le}
-use lib.ListN.{length, get_or}
-use Rattle.joins.specs.Faces.{mirror}
-use Rattle.parts.specs.Parts.{face_at, InRun}
-use Rattle.sorting.specs.Sorted.{side_at, SortedFaces, Narrowed}
-use Rattle.faces.specs.Passing.{Follows, LowestFollows, MayFollow, Lower, LowestAmong}
-use Rattle.parts.proofs.Parts.{face_size}
-use Rattle.sorting.proofs.Sides.{shares_side, side_shares}
+use lib.ListN.{get_or}
+use Rattle.std.proofs.Common.{Option, Some, None}
+use Rattle.faces.specs.Passing.{Lowest, Under, Lower, Among}
 
-module _ {Ok : ℕ → Type 0} {b old : ℕ} where
-  pub lower_taken : b < old → Ok b → Lower Ok b old b
-  lower_taken l h = record { falls = omega arith; passed = λ g. omega arith; taken = λ g. (refl, h) }
+module _ (faces : List ℕ) (i : ℕ) {Has : ℕ → Type 0} where
+  more : {b : ℕ} → Among faces i Has b → Among faces (i + 1) Has b
+  more a = record { place = a.place; within = omega (arith, a.within); at = a.at; has = a.has }
 
-  pub lower_kept : (Ok b → ⊥) → Lower Ok b old old
-  lower_kept h = record { falls = omega arith; passed = λ g. absurd (h g); taken = λ g. absurd (omega arith) }
+  last : {b : ℕ} → get_or faces i 0 ≡ b → Has b → Among faces (i + 1) Has b
+  last e h = record { place = i; within = omega arith; at = e; has = h }
 
-module _ {Ok : ℕ → Type 0} {sorted : List ℕ} {m low : ℕ} where
-  pub lowest_none : LowestAmong Ok sorted m low low m
-  lowest_none =
-      record { bound = omega arith; found = λ l. absurd (omega arith); lowest = λ i l h g. absurd (omega arith) }
-
-  pub lowest_next : {i r s : ℕ} → low ≤ i → LowestAmong Ok sorted m low i r → Lower Ok (get_or sorted i 0) r s
-      → LowestAmong Ok sorted m low (i + 1) s
-  lowest_next {i} {r} {s} b w t =
-      record { bound = omega (arith, w.bound, t.falls); found = found; lowest = λ j l h g. lowest j l g (ℕ_discrete j i) h }
+  split : {b : ℕ} → Among faces (i + 1) Has b → Among faces i Has b ⊎ ((get_or faces i 0 ≡ b) × Has b)
+  split {b} a = go (ℕ_discrete a.place i)
     where
-      found : s < m → (j : ℕ) × (low ≤ j) × (j < i + 1) × (get_or sorted j 0 ≡ s) × Ok s
-      found l = go (dec_le r s)
+      go : Dec (a.place ≡ i) → Among faces i Has b ⊎ ((get_or faces i 0 ≡ b) × Has b)
+      go (yes e) = inr (rw e at a.at, a.has)
+      go (no d) = inl (record { place = a.place; within = omega (arith, a.within); at = a.at; has = a.has })
+
+  pub lowest_next : (old r : Option ℕ) → Lowest (Among faces i Has) old → Lower Has (get_or faces i 0) old r
+      → Lowest (Among faces (i + 1) Has) r
+  lowest_next old r w t = go t.taken
+    where
+      -- none of those passed is below r
+      under : (old : Option ℕ) → Lowest (Among faces i Has) old → ((l : ℕ) → old ≡ Some l → Under r l) → (b : ℕ)
+          → Among faces (i + 1) Has b → Under r b
+      under old w falls b a = by (split a)
         where
-          go : Dec (r ≤ s) → (j : ℕ) × (low ≤ j) × (j < i + 1) × (get_or sorted j 0 ≡ s) × Ok s
-          go (yes h) =
-              let e : r ≡ s = omega (arith, t.falls) in
-              let x = w.found (omega arith) in
-              (x.0, x.1, omega (arith, x.2), x.3 ∙ e, rw e at x.4)
-          go (no h) =
-              let x = t.taken (omega arith) in
-              (i, b, omega arith, sym x.0, x.1)
+          earlier : (old : Option ℕ) → Lowest (Among faces i Has) old → ((l : ℕ) → old ≡ Some l → Under r l)
+              → Among faces i Has b → Under r b
+          earlier None w falls a = absurd (w b a)
+          earlier (Some l) w falls a = lower_still r (falls l refl)
+            where
+              lower_still : (r : Option ℕ) → Under r l → Under r b
+              lower_still None h = h
+              lower_still (Some r) h = omega (arith, w.1 b a)
 
-      lowest : (j : ℕ) → low ≤ j → Ok (get_or sorted j 0) → Dec (j ≡ i) → j < i + 1 → s ≤ get_or sorted j 0
-      lowest j l g (yes e) h = rw e (t.passed (rw e at g))
-      lowest j l g (no d) h = omega (arith, t.falls, w.lowest j l (omega arith) g)
+          by : Among faces i Has b ⊎ ((get_or faces i 0 ≡ b) × Has b) → Under r b
+          by (inl x) = earlier old w falls x
+          by (inr x) = rw x.0 at (t.passed (rw x.0 x.1))
 
-module _ {run starts sizes : List ℕ} {n a : ℕ} (in_run : InRun run starts sizes n) (a_in : a < 2 * n) where
-  long : length (face_at run starts sizes a) ≡ get_or sizes (a / 2) 0
-  long = face_size run starts sizes a (in_run.ends (a / 2) (omega arith))
+      lowest : (r : Option ℕ) → ((b : ℕ) → Among faces (i + 1) Has b → Under r b) → ((b : ℕ) → r ≡ Some b → Among faces (i + 1) Has b)
+          → Lowest (Among faces (i + 1) Has) r
+      lowest None u h = u
+      lowest (Some r) u h = (h r refl, u)
 
-  -- a has no o bands
-  pub follows_none : {after : List ℕ} {o head : ℕ} → get_or sizes (a / 2) 0 < o → LowestFollows run starts sizes n after a o head (2 * n)
-  follows_none l =
-      record {
-        bound = omega arith;
-        follows = λ h. absurd (omega arith);
-        lowest = λ b h. absurd (omega (arith, long, (shares_side h.shares).0));
-      }
+      kept : (old : Option ℕ) → Lowest (Among faces i Has) old → (b : ℕ) → old ≡ Some b → Among faces (i + 1) Has b
+      kept None w b e = cc
+      kept (Some l) w b e = let k : l ≡ b = cc in rw k at (more w.0)
 
-  -- the faces that begin with a's last o bands are those from the first on side 1 to before the first on side 2
-  module _ {sorted after : List ℕ} {o head low high other r : ℕ} (fits : o ≤ get_or sizes (a / 2) 0) (t : SortedFaces run starts sizes n sorted)
-      (l : Narrowed (side_at run starts sizes sorted a o) 1 (2 * n) low low)
-      (h : Narrowed (side_at run starts sizes sorted a o) 2 (2 * n) high high) (other-is : other ≡ mirror a)
-      (w : LowestAmong (MayFollow after head other) sorted (2 * n) low high r) where
-    follows : r < 2 * n → Follows run starts sizes n after a o head r
-    follows g =
-        let x = w.found g in
-        let i = x.0 in
-        let s : side_at run starts sizes sorted a o i ≡ 1 =
-        omega (arith, l.above i x.1 (omega (arith, x.2, h.bound)), h.below i x.2) in
-        record {
-          within = g;
-          shares = side_shares (face_at run starts sizes a) (face_at run starts sizes r) o (omega (arith, long)) (rw x.3 at s);
-          begins = x.4.begins;
-          unclosed = x.4.unclosed;
-          unmirrored = rw other-is at x.4.unmirrored;
-        }
+      go : (r ≡ old) ⊎ ((r ≡ Some (get_or faces i 0)) × Has (get_or faces i 0)) → Lowest (Among faces (i + 1) Has) r
+      go (inl e) = lowest r (under old w t.falls) (λ b q. kept old w b (sym e ∙ q))
+      go (inr x) = lowest r (under old w t.falls) (λ b q. let k : get_or faces i 0 ≡ b = cc in last k (rw k at x.1))
 
-    lowest : (b : ℕ) → Follows run starts sizes n after a o head b → r ≤ b
-    lowest b f =
-        let x = t.each b f.within in
-        at x.0 x.1 x.2
-      where
-        ok : MayFollow after head other b
-        ok = record { begins = f.begins; unclosed = f.unclosed; unmirrored = rw other-is f.unmirrored }
+pub lowest_none : (faces : List ℕ) {Has : ℕ → Type 0} → Lowest (Among faces 0 Has) None
+lowest_none faces b a = absurd (omega (arith, a.within))
 
-        at : (i : ℕ) → i < 2 * n → get_or sorted i 0 ≡ b → r ≤ b
-        at i k e = rw e at (w.lowest i (from (dec_le low i)) (to (dec_le high i)) (rw e ok))
-          where
-            one : side_at run starts sizes sorted a o i ≡ 1
-            one = rw e (shares_side f.shares).1
-
-            from : Dec (low ≤ i) → low ≤ i
-            from (yes g) = g
-            from (no g) = absurd (omega (arith, l.below i (omega arith), one))
-
-            to : Dec (high ≤ i) → i < high
-            to (yes g) = absurd (omega (arith, h.above i g k, one))
-            to (no g) = omega arith
-
-    pub follows_lowest : LowestFollows run starts sizes n after a o head r
-    follows_lowest = record { bound = w.bound; follows = follows; lowest = lowest }
+-- what has one property has another, and the other way round
+pub lowest_same : {P Q : ℕ → Type 0} → ((b : ℕ) → P b → Q b) → ((b : ℕ) → Q b → (P b → ⊥) → ⊥) → (r : Option ℕ) → Lowest P r → Lowest Q r
+lowest_same to from None w = λ b q. from b q (w b)
+lowest_same {Q = Q} to from (Some r) w = (to r w.0, λ b q. under b q (dec_le r b))
+  where
+    under : (b : ℕ) → Q b → Dec (r ≤ b) → r ≤ b
+    under b q (yes l) = l
+    under b q (no d) = absurd (from b q (λ p. d (w.1 b p)))

@@ -1,23 +1,26 @@
 -- What the search among the sorted faces gives to the pass: the lowest face that can follow.
-use Rattle.std.specs.Prelude.{◌≡◌, ◌≢◌, List, ℕ, ◌*◌, ◌≤◌, ◌<◌, get_or}
+use Rattle.std.specs.Prelude.{◌≡◌, ◌≢◌, ◌⊎◌, Bool, not, ◌&&◌, List, ℕ, ◌*◌, ◌≤◌, ◌<◌, eqb, length, get_or, Option, Some, None}
+use Rattle.words.specs.Turn.{turned}
 use Rattle.words.specs.Overlap.{Shares}
 use Rattle.joins.specs.Faces.{mirror}
-use Rattle.parts.specs.Parts.{face_at}
+use Rattle.greedy.specs.Reading.{face_of}
+
+-- the lowest number that has a property; none where no number has it
+abbrev pub Lowest : (ℕ → Type 0) → Option ℕ → Type 0
+Lowest Has None = (b : ℕ) → Has b → ⊥
+Lowest Has (Some r) = Has r × ((b : ℕ) → Has b → r ≤ b)
 
 -- Face b can come after face a with o bands shared: it begins with a's last o bands, it begins a piece (nothing comes
 -- before it, by `after`), and it is neither the head of a's own piece nor a's mirror.
-pub record Follows (run starts sizes : List ℕ) (n : ℕ) (after : List ℕ) (a o head b : ℕ) : Type 0 where
-  pub within : b < 2 * n
-  pub shares : Shares (face_at run starts sizes a) (face_at run starts sizes b) o
+pub record Follows (ks : List (List ℕ)) (after : List ℕ) (a o head b : ℕ) : Type 0 where
+  pub within : b < 2 * length ks
+  pub shares : Shares (face_of turned ks a) (face_of turned ks b) o
   pub begins : get_or after (mirror b) 0 ≡ 0
   pub unclosed : b ≢ head
   pub unmirrored : b ≢ mirror a
 
--- The lowest such face; 2n where there is none.
-pub record LowestFollows (run starts sizes : List ℕ) (n : ℕ) (after : List ℕ) (a o head r : ℕ) : Type 0 where
-  pub bound : r ≤ 2 * n
-  pub follows : r < 2 * n → Follows run starts sizes n after a o head r
-  pub lowest : (b : ℕ) → Follows run starts sizes n after a o head b → r ≤ b
+abbrev pub LowestFollows : List (List ℕ) → List ℕ → (a o head : ℕ) → Option ℕ → Type 0
+LowestFollows ks after a o head r = Lowest (Follows ks after a o head) r
 
 -- Whatever its bands, b may come after a: it begins a piece, and is neither the head of a's own piece nor `other`, a's
 -- mirror.
@@ -26,14 +29,27 @@ pub record MayFollow (after : List ℕ) (head other b : ℕ) : Type 0 where
   pub unclosed : b ≢ head
   pub unmirrored : b ≢ other
 
--- the lower of r and b, if b may follow; else r as it was
-pub record Lower (Ok : ℕ → Type 0) (b old r : ℕ) : Type 0 where
-  pub falls : r ≤ old
-  pub passed : Ok b → r ≤ b
-  pub taken : r < old → (r ≡ b) × Ok r
+-- its test
+abbrev pub may_follow_lem : List ℕ → (head other b : ℕ) → Bool
+may_follow_lem after head other b = not (eqb b head) && not (eqb b other) && eqb (get_or after (mirror b) 0) 0
 
--- the lowest face that may follow, of those at the places from `low` to before `high`; m where there is none
-pub record LowestAmong (Ok : ℕ → Type 0) (sorted : List ℕ) (m low high r : ℕ) : Type 0 where
-  pub bound : r ≤ m
-  pub found : r < m → (i : ℕ) × (low ≤ i) × (i < high) × (get_or sorted i 0 ≡ r) × Ok r
-  pub lowest : (i : ℕ) → low ≤ i → i < high → Ok (get_or sorted i 0) → r ≤ get_or sorted i 0
+-- r is a number up to b
+abbrev pub Under : Option ℕ → ℕ → Type 0
+Under None b = ⊥
+Under (Some r) b = r ≤ b
+
+-- the lower of `old` and b, if b has a property; else `old`
+pub record Lower (Has : ℕ → Type 0) (b : ℕ) (old r : Option ℕ) : Type 0 where
+  pub falls : (l : ℕ) → old ≡ Some l → Under r l
+  pub passed : Has b → Under r b
+  pub taken : (r ≡ old) ⊎ ((r ≡ Some b) × Has b)
+
+-- b is one of the first m faces of a row, and has a property
+pub record Among (faces : List ℕ) (m : ℕ) (Has : ℕ → Type 0) (b : ℕ) : Type 0 where
+  pub place : ℕ
+  pub within : place < m
+  pub at : get_or faces place 0 ≡ b
+  pub has : Has b
+
+abbrev pub LowestAmong : (ℕ → Type 0) → List ℕ → Option ℕ → Type 0
+LowestAmong Has faces r = Lowest (Among faces (length faces) Has) r

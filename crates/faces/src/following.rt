@@ -1,75 +1,76 @@
 // The lowest face that can come after a face with so many bands shared, found among the sorted faces.
-ghost use Rattle.std.specs.Prelude.{ℕ, ◌*◌, ◌<◌, ◌≤◌, length, get_or};
+ghost use Rattle.std.specs.Prelude.{◌≡◌, ℕ, ◌*◌, ◌<◌, ◌≤◌, length, get_or};
 ghost use Rattle.joins.specs.Rows.{Row};
-ghost use Rattle.parts.specs.Parts.{InRun};
-ghost use Rattle.sorting.specs.Sorted.{SortedFaces};
-ghost use Rattle.faces.specs.Passing.{LowestFollows, MayFollow, Lower, LowestAmong};
+ghost use Rattle.joining.specs.Joins.{row_of};
+ghost use Rattle.faces.specs.Passing.{LowestFollows, MayFollow, may_follow_lem, Lower, LowestAmong};
 
-use sorting::{first_place, range_end};
+use joining::mirror_of;
+use sorting::Sorted;
 
-// b where it is below `best` and may follow, else `best`.
-fn lower(after: &[usize], head: usize, other: usize, b: usize, best: usize) -> usize
-    requires { (256 ≤ length after.now) × (b < 256) }
-    ensures { Lower (MayFollow after.now head other) b best result }
-{
-    if best <= b {
-        return best;
-    }
-    if b == head {
-        return best;
-    }
-    if b == other {
-        return best;
-    }
-    if after[joining::mirror_of(b)] == 0 {
-        return b;
-    }
-    best
-}
-
-// The lowest that may follow of the faces at the places from `low` to before `high`; m where there is none.
-fn lowest_among(
-    sorted: &[usize],
-    after: &[usize],
-    m: usize,
+// What may come after a face, whatever its bands.
+#[derive(Clone, Copy)]
+struct Followers<'a> {
+    after: &'a [Option<usize>],
+    // the first face of the face's own piece
     head: usize,
+    // the face's mirror
     other: usize,
-    low: usize,
-    high: usize,
-) -> usize
-    requires { (256 ≤ length after.now) × (low ≤ high) × (high ≤ length sorted.now) × ((i : ℕ) → i < high → get_or sorted.now i 0 < 256) }
-    ensures { LowestAmong (MayFollow after.now head other) sorted.now m low high result }
-{
-    let mut best = m;
-    let mut i = low;
-    while i < high {
-        best = lower(after, head, other, sorted[i], best);
-        i += 1;
-    }
-    best
+    ghost room: { 256 ≤ length after.now },
 }
 
-// The lowest face that can come after a with o bands shared; 2n where there is none. Those that begin with a's last o bands
-// are one range of the sorted faces.
+impl Followers<'_> {
+    // b is one of them.
+    fn has(self, b: usize) -> bool
+        requires { b < 256 }
+        ensures { result ≡ may_follow_lem (row_of self.entry.after.now) self.entry.head self.entry.other b }
+    {
+        b != self.head && b != self.other && self.after[mirror_of(b)].is_none()
+    }
+
+    // b where it is below `best` and may follow, else `best`.
+    fn lower(self, b: usize, best: Option<usize>) -> Option<usize>
+        requires { b < 256 }
+        ensures { Lower (MayFollow (row_of self.entry.after.now) self.entry.head self.entry.other) b best result }
+    {
+        match best {
+            Some(lowest) if lowest <= b => best,
+            _ if self.has(b) => Some(b),
+            _ => best,
+        }
+    }
+
+    // The lowest of some faces that may follow.
+    fn lowest_among(self, faces: &[usize]) -> Option<usize>
+        requires { (i : ℕ) → i < length faces.now → get_or faces.now i 0 < 256 }
+        ensures { LowestAmong (MayFollow (row_of self.entry.after.now) self.entry.head self.entry.other) faces.now result }
+    {
+        let mut best = None;
+        for b in faces {
+            best = self.lower(*b, best);
+        }
+        best
+    }
+}
+
+// The lowest face that can come after a with o bands shared: of those that begin with a's last o bands.
 pub fn lowest_following(
-    bands: &[u8],
-    starts: &[usize],
-    sizes: &[usize],
-    n: usize,
-    sorted: &[usize],
-    after: &[usize],
+    sorted: &Sorted<'_>,
+    after: &[Option<usize>],
     a: usize,
     o: usize,
     head: usize,
-) -> usize
-    requires { InRun bands.now starts.now sizes.now n × SortedFaces bands.now starts.now sizes.now n sorted.now × Row n after.now × (a < 2 * n) }
-    ensures { LowestFollows bands.now starts.now sizes.now n after.now a o head result }
+) -> Option<usize>
+    requires { Row (length sorted.now) (row_of after.now) × (a < 2 * length sorted.now) }
+    ensures { LowestFollows sorted.now (row_of after.now) a o head result }
 {
-    let m = 2 * n;
-    if sizes[a / 2] < o {
-        return m;
+    let face = sorted.parts().face(a);
+    if face.len() < o {
+        return None;
     }
-    let low = first_place(bands, starts, sizes, sorted, 0, m, a, o, 1);
-    let high = range_end(bands, starts, sizes, sorted, low, m, a, o);
-    lowest_among(sorted, after, m, head, joining::mirror_of(a), low, high)
+    let followers = Followers {
+        after,
+        head,
+        other: mirror_of(a),
+    };
+    followers.lowest_among(sorted.beginning_with(face, o))
 }

@@ -1,93 +1,61 @@
 // Joining by one pass: the overlaps from the largest down, and for each the faces in ascending order. What is allowed only
 // ever shrinks, so a join that is passed over is not wanted later, and no table of overlaps is needed.
 ghost use Rattle.std.specs.Prelude.{◌+◌, ◌*◌, ◌≤◌, ◌<◌, length};
-ghost use Rattle.joins.specs.Rounds.{order_of};
+ghost use Rattle.words.specs.Turn.{turned};
 ghost use Rattle.joins.specs.Rows.{Unjoined, Laid, Wrote};
 ghost use Rattle.joins.specs.Pass.{PassedRow};
-ghost use Rattle.parts.specs.Parts.{InRun, part_shared};
-ghost use Rattle.sorting.specs.Sorted.{SortedFaces};
+ghost use Rattle.joining.specs.Joins.{row_of};
+ghost use Rattle.greedy.specs.Reading.{shared};
+ghost use Rattle.greedy.specs.Layout.{order_for};
+ghost use Rattle.parts.specs.Parts.{FewCodes};
 
 use crate::following::lowest_following;
-use sorting::sort_faces;
+use joining::{end_from, make_join, mirror_of, write_order};
+use parts::Parts;
+use sorting::Sorted;
 
 // The join from face a with overlap o, where a ends a piece and some face can follow: of those the lowest.
-fn join_from(
-    bands: &[u8],
-    starts: &[usize],
-    sizes: &[usize],
-    n: usize,
-    sorted: &[usize],
-    after: &mut [usize],
-    o: usize,
-    a: usize,
-)
-    requires { InRun bands.now starts.now sizes.now n × SortedFaces bands.now starts.now sizes.now n sorted.now × (a < 2 * n) × PassedRow n (part_shared bands.now starts.now sizes.now n) after.old o a }
-    ensures { PassedRow n (part_shared bands.now starts.now sizes.now n) after.new o (a + 1) }
+fn join_from(sorted: &Sorted<'_>, after: &mut [Option<usize>], o: usize, a: usize)
+    requires { (a < 2 * length sorted.now) × PassedRow (length sorted.now) (shared turned sorted.now) (row_of after.old) o a }
+    ensures { PassedRow (length sorted.now) (shared turned sorted.now) (row_of after.new) o (a + 1) }
 {
-    if after[a] != 0 {
+    if after[a].is_some() {
         return;
     }
-    let head = joining::mirror_of(joining::end_from(after, n, joining::mirror_of(a)));
-    let b = lowest_following(bands, starts, sizes, n, sorted, after, a, o, head);
-    if 2 * n <= b {
-        return;
+    let head = mirror_of(end_from(after, sorted.parts().len(), mirror_of(a)));
+    if let Some(b) = lowest_following(sorted, after, a, o, head) {
+        make_join(after, a, b);
     }
-    joining::make_join(after, a, b);
 }
 
 // All joins with overlap o.
-fn join_faces_at(
-    bands: &[u8],
-    starts: &[usize],
-    sizes: &[usize],
-    n: usize,
-    sorted: &[usize],
-    after: &mut [usize],
-    o: usize,
-)
-    requires { InRun bands.now starts.now sizes.now n × SortedFaces bands.now starts.now sizes.now n sorted.now × PassedRow n (part_shared bands.now starts.now sizes.now n) after.old o 0 }
-    ensures { PassedRow n (part_shared bands.now starts.now sizes.now n) after.new o (2 * n) }
+fn join_faces_at(sorted: &Sorted<'_>, after: &mut [Option<usize>], o: usize)
+    requires { PassedRow (length sorted.now) (shared turned sorted.now) (row_of after.old) o 0 }
+    ensures { PassedRow (length sorted.now) (shared turned sorted.now) (row_of after.new) o (2 * length sorted.now) }
 {
-    let mut a = 0;
-    while a < 2 * n {
-        join_from(bands, starts, sizes, n, sorted, after, o, a);
-        a += 1;
+    for a in 0..2 * sorted.parts().len() {
+        join_from(sorted, after, o, a);
     }
 }
 
 // The whole pass, from a row with no joins. No face has more than 64 bands.
-fn run_pass(
-    bands: &[u8],
-    starts: &[usize],
-    sizes: &[usize],
-    n: usize,
-    sorted: &[usize],
-    after: &mut [usize],
-)
-    requires { InRun bands.now starts.now sizes.now n × SortedFaces bands.now starts.now sizes.now n sorted.now × Unjoined n after.old }
-    ensures { Laid n (part_shared bands.now starts.now sizes.now n) after.new }
+fn run_pass(sorted: &Sorted<'_>, after: &mut [Option<usize>])
+    requires { FewCodes sorted.now × Unjoined (length sorted.now) (row_of after.old) }
+    ensures { Laid (length sorted.now) (shared turned sorted.now) (row_of after.new) }
 {
-    let mut left: usize = 65;
-    while 0 < left {
-        left -= 1;
-        join_faces_at(bands, starts, sizes, n, sorted, after, left);
+    for o in (0..65).rev() {
+        join_faces_at(sorted, after, o);
     }
 }
 
-// The order of faces of n parts that joining gives, written at the beginning of order. How many faces it has.
-pub fn order_faces(
-    bands: &[u8],
-    starts: &[usize],
-    sizes: &[usize],
-    n: usize,
-    order: &mut [usize],
-) -> usize
-    requires { InRun bands.now starts.now sizes.now n × (256 ≤ length order.old) }
-    ensures { Wrote (order_of n (part_shared bands.now starts.now sizes.now n)) order.old order.new result }
+// The order of the parts' faces that joining gives, written at the beginning of order. How many faces it has.
+pub fn order_faces(parts: &Parts<'_>, order: &mut [usize]) -> usize
+    requires { 256 ≤ length order.old }
+    ensures order { Wrote (order_for turned parts.now) order.old order.new result }
+    ensures few { result ≤ 256 }
 {
-    let mut sorted = [0usize; 256];
-    sort_faces(bands, starts, sizes, n, &mut sorted);
-    let mut after = [0usize; 256];
-    run_pass(bands, starts, sizes, n, &sorted, &mut after);
-    joining::write_order(&after, n, order)
+    let n = parts.len();
+    let mut after = [None; 256];
+    run_pass(&Sorted::of(parts), &mut after);
+    write_order(&after, n, order)
 }

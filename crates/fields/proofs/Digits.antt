@@ -9,9 +9,6 @@ use Rattle.words.proofs.Written.{written_as, one_written, both_written}
 use Rattle.sheets.specs.Decimal.{digit, decimal}
 use Rattle.sheets.proofs.Decimal.{decimal_one, decimal_more}
 
-pub one_digit_long : {v : ℕ} → v < 10 → length (decimal v) ≡ 1
-one_digit_long l = ap length (decimal_one l)
-
 pub one_digit_longer : {v : ℕ} → 10 ≤ v → length (decimal v) ≡ length (decimal (v / 10)) + 1
 one_digit_longer {v} h = ap length (decimal_more h) ∙ length-append (decimal (v / 10)) (digit v ∷ [])
 

@@ -1,8 +1,14 @@
-// What rows are made of: names as fields, and numbers in decimal.
+// What rows are made of, names as fields and numbers in decimal, and where texts go: a sink, which writes or counts them.
 #![tactic(auto)]
 
+mod counter;
 mod numbers;
 mod quoting;
+mod sink;
+mod writer;
 
-pub use numbers::{decimal_size, put_decimal};
-pub use quoting::{field_size, put_field};
+pub use counter::Counter;
+pub use numbers::put_decimal;
+pub use quoting::put_field;
+pub use sink::Sink;
+pub use writer::Writer;

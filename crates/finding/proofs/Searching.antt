@@ -3,12 +3,10 @@ use mathlib.Core.Path.{◌≡◌, sym, subst, ◌∙◌}
 use mathlib.Core.Logic.{inl, inr}
 use mathlib.Core.Bool.{true, false}
 use mathlib.Core.List.{List}
-use Prim.Native.Nat.{ℕ, ◌+◌, ◌-◌, ◌≤◌, ◌<◌}
+use Prim.Native.Nat.{ℕ, ◌+◌, ◌-◌, ◌≤◌, ◌<◌, max}
 use native.Mathlib.Omega.{arith}
-use lib.Dec.{leb}
 use lib.ListN.{length, take, drop, get_or, length-drop}
 use lib.Seq.{take_all}
-use Rattle.words.specs.Tests.{pick}
 use Rattle.words.specs.Decides.{Decides}
 use Rattle.words.specs.Stand.{StandsAt, StandsHere, begins}
 use Rattle.words.specs.Falling.{FallBack, Advances}
@@ -45,7 +43,7 @@ module _ {turn : List ℕ → List ℕ} {c s : List ℕ} (as_long : length (turn
         let o = q.both.turned in
         (omega (arith, as_long, (open_in o).0), (open_in o).1, o.within)
 
-    pub seeking_skip : {w r y z : ℕ} → r ≡ pick (leb j m) m j → y ≡ total c → z ≡ total (turn c)
+    pub seeking_skip : {w r y z : ℕ} → r ≡ max j m → y ≡ total c → z ≡ total (turn c)
         → Skipped s (length c) y z p (i + j - r) w → Seeking turn c s k w i j m
     seeking_skip f u v g =
         record { both = both_skip as_long q.both f u v g; given_from = q.given_from; turned_from = q.turned_from }

@@ -1,10 +1,14 @@
 -- The place that an answer of the search tells.
+use Rattle.std.specs.Prelude.{Option, Some, None, ℕ}
 use Rattle.words.specs.Place.{Place, given_at, turned_at, either_at, nowhere}
-use Rattle.finding.specs.declared.Found.{Found}
-use Rattle.finding.specs.declared.Found.TheVariants.{Given, Turned, Either, Nowhere}
+use Rattle.finding.specs.declared.Way.{Way}
+use Rattle.finding.specs.declared.Way.TheVariants.{Given, Turned, Either}
 
-abbrev pub place_in : Found → Place
-place_in (Given i) = given_at i
-place_in (Turned i) = turned_at i
-place_in (Either i) = either_at i
-place_in Nowhere = nowhere
+abbrev pub way_at : Way ℕ → Place
+way_at (Given i) = given_at i
+way_at (Turned i) = turned_at i
+way_at (Either i) = either_at i
+
+abbrev pub place_in : Option (Way ℕ) → Place
+place_in (Some w) = way_at w
+place_in None = nowhere

@@ -5,11 +5,10 @@ mod starts;
 
 pub use starts::find_place;
 
-// As given, turned or either way at a start, or no place.
-#[derive(Clone, Copy)]
-pub enum Found {
-    Given(usize),
-    Turned(usize),
-    Either(usize),
-    Nowhere,
+// A way of a word, with the start at which it stands: either for a word that looks alike from both ends. N is the start's type.
+#[derive(Clone, Copy, PartialEq, Eq)]
+pub enum Way<N> {
+    Given(N),
+    Turned(N),
+    Either(N),
 }

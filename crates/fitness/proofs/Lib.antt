@@ -1,3 +1,2 @@
--- The laws of the tests: lists scanned, and words passed one by one.
-pub mod Scanning
-pub mod Passing
+-- The laws of the tests.
+pub mod Walks

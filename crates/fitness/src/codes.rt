@@ -10,18 +10,7 @@ use lists::MOST_CODES;
 fn lengths_ok(lengths: &[u16]) -> bool
     ensures { result ≡ lengths_ok_lem lengths.now }
 {
-    let mut i = 0;
-    while i < lengths.len() {
-        let n = lengths[i];
-        if n < 1 {
-            return false;
-        }
-        if 64 < n {
-            return false;
-        }
-        i += 1;
-    }
-    true
+    lengths.iter().all(|n| (1..=64).contains(n))
 }
 
 // The lengths added up. There are too few of them for the sum to overflow.
@@ -29,13 +18,7 @@ pub fn sum_of(lengths: &[u16]) -> usize
     requires { length lengths.now ≤ 128 }
     ensures { result ≡ total lengths.now }
 {
-    let mut sum: usize = 0;
-    let mut i = 0;
-    while i < lengths.len() {
-        sum += lengths[i] as usize;
-        i += 1;
-    }
-    sum
+    lengths.iter().map(|n| usize::from(*n)).sum()
 }
 
 // No clause of refusal 12 holds of a run of bands and a length for each code. The count comes first, so that the sum of
@@ -43,17 +26,8 @@ pub fn sum_of(lengths: &[u16]) -> usize
 pub fn list_ok(bands: &[u8], lengths: &[u16]) -> bool
     ensures { result ≡ list_ok_lem bands.now lengths.now }
 {
-    if lengths.len() < 1 {
-        return false;
-    }
-    if MOST_CODES < lengths.len() {
-        return false;
-    }
-    if !lengths_ok(lengths) {
-        return false;
-    }
-    if sum_of(lengths) != bands.len() {
-        return false;
-    }
-    all_bands(bands)
+    (1..=MOST_CODES).contains(&lengths.len())
+        && lengths_ok(lengths)
+        && sum_of(lengths) == bands.len()
+        && all_bands(bands)
 }

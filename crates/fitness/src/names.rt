@@ -1,61 +1,34 @@
 // The rules for names that come with a list: refusal 12.
-ghost use Rattle.std.specs.Prelude.{◌≡◌, ◌≤◌, length};
-ghost use Rattle.lists.specs.Runs.{codes_in, total};
+ghost use Rattle.std.specs.Prelude.{◌≡◌, ◌≤◌};
+ghost use Rattle.lists.specs.Handed.{words_of};
 ghost use Rattle.lists.specs.Fit.{all, is_in, name_ok_lem, all_once_lem, names_ok_lem};
 
 use crate::codes::sum_of;
 use crate::texts::name_ok;
+use lists::Run;
 
 // One of the names in a run has this name.
-pub fn is_taken(name: &[u8], names: &[u8], sizes: &[u16]) -> bool
-    requires { total sizes.now ≤ length names.now }
-    ensures { result ≡ is_in name.now (codes_in names.now sizes.now) }
+pub fn is_taken(name: &[u8], mut names: Run) -> bool
+    ensures { result ≡ is_in name.now (words_of names.entry) }
 {
-    let mut from: usize = 0;
-    let mut k = 0;
-    while k < sizes.len() {
-        let to = from + sizes[k] as usize;
-        if matching::same(name, &names[from..to]) {
-            return true;
-        }
-        from = to;
-        k += 1;
-    }
-    false
+    names.any(|other| name == other)
 }
 
 // Each name in a run keeps the rule for names.
-fn all_named(names: &[u8], sizes: &[u16]) -> bool
-    requires { total sizes.now ≤ length names.now }
-    ensures { result ≡ all name_ok_lem (codes_in names.now sizes.now) }
+fn all_named(mut names: Run) -> bool
+    ensures { result ≡ all name_ok_lem (words_of names.entry) }
 {
-    let mut from: usize = 0;
-    let mut k = 0;
-    while k < sizes.len() {
-        let to = from + sizes[k] as usize;
-        if !name_ok(&names[from..to]) {
-            return false;
-        }
-        from = to;
-        k += 1;
-    }
-    true
+    names.all(name_ok)
 }
 
 // Each name in a run is used once: none is taken by those behind it.
-fn all_once(names: &[u8], sizes: &[u16]) -> bool
-    requires { total sizes.now ≤ length names.now }
-    ensures { result ≡ all_once_lem (codes_in names.now sizes.now) }
+fn all_once(mut names: Run) -> bool
+    ensures { result ≡ all_once_lem (words_of names.entry) }
 {
-    let mut from: usize = 0;
-    let mut k = 0;
-    while k < sizes.len() {
-        let to = from + sizes[k] as usize;
-        k += 1;
-        if is_taken(&names[from..to], &names[to..], &sizes[k..]) {
+    while let Some(name) = names.next() {
+        if is_taken(name, names) {
             return false;
         }
-        from = to;
     }
     true
 }
@@ -66,14 +39,9 @@ pub fn names_ok(codes: usize, names: &[u8], sizes: &[u16]) -> bool
     requires { codes ≤ 128 }
     ensures { result ≡ names_ok_lem codes names.now sizes.now }
 {
-    if sizes.len() != codes {
+    if sizes.len() != codes || sum_of(sizes) != names.len() {
         return false;
     }
-    if sum_of(sizes) != names.len() {
-        return false;
-    }
-    if !all_named(names, sizes) {
-        return false;
-    }
-    all_once(names, sizes)
+    let run = Run::new(names, sizes);
+    all_named(run) && all_once(run)
 }

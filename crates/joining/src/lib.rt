@@ -1,5 +1,6 @@
-// Joining n kept codes, whatever their faces spell. The joins are one row, `after`: at each face the face after it plus 1,
-// and 0 where the face ends a piece.
+// Joining n kept codes, whatever their faces spell. The joins are one row, `after`: at each face the face after it, or none
+// where the face ends a piece. It and n stay two parameters: a type that kept the row to the faces of n codes would ask more
+// of make_join, which takes any two faces.
 #![tactic(auto)]
 
 mod ends; // from a face to the end of its piece

@@ -16,13 +16,6 @@ use Rattle.joins.proofs.Walks.{mirror_below}
 abbrev pub stored : List ℕ → ℕ → ℕ → List ℕ
 stored after a b = set (set after (mirror b) (mirror a + 1)) a (b + 1)
 
--- where g and f are the mirrors of b and a
-pub stored_by : (after : List ℕ) (a b g f : ℕ) → g ≡ mirror b → f ≡ mirror a
-    → set (set after g (f + 1)) a (b + 1) ≡ stored after a b
-stored_by after a b g f p q =
-    ap (λ (x : ℕ). set (set after x (f + 1)) a (b + 1)) p
-    ∙ ap (λ (x : ℕ). set (set after (mirror b) (x + 1)) a (b + 1)) q
-
 module _ {n : ℕ} {after : List ℕ} {a b : ℕ} (row : Row n after) (la : a < 2 * n) (lb : b < 2 * n) where
   abbrev once : List ℕ
   once = set after (mirror b) (mirror a + 1)

@@ -2,6 +2,7 @@
 -- of the kept codes in the order that joining gives.
 use mathlib.Core.Path.{◌≡◌, refl, sym, ap, ◌∙◌}
 use mathlib.Core.Bool.{Bool, true, false, not}
+use Rattle.std.proofs.Common.{Result, Ok}
 use mathlib.Core.List.{List, [], ◌∷◌}
 use Prim.Native.Nat.{ℕ, zero, suc, ◌*◌, ◌≤◌, ◌<◌}
 use native.Mathlib.Omega.{arith}
@@ -11,82 +12,69 @@ use lib.Seq.{take-append_seam}
 use borrow.Author.Tests.{lt-ltb, le-ltb}
 use Rattle.words.specs.Lists.{Each}
 use Rattle.words.specs.Turn.{turned}
+use Rattle.lists.specs.Handed.{words_of}
+use Rattle.lists.specs.declared.handed.Run.{Run}
 use Rattle.lists.specs.Runs.{codes_in, over}
 use Rattle.lists.specs.Refusals.{whole, false_list_number, short_buffer_number}
 use Rattle.lists.specs.Fit.{list_ok_lem}
 use Rattle.lists.specs.Outcome.{outcome}
-use Rattle.joins.specs.Rounds.{order_of}
 use Rattle.joins.specs.Rows.{Wrote}
-use Rattle.joins.proofs.Order.{order_short, order_within}
+use Rattle.joins.proofs.Order.{order_within}
 use Rattle.greedy.specs.Dropping.{kept}
+use Rattle.greedy.specs.Reading.{shared, read_piece}
 use Rattle.greedy.specs.Layout.{ribbon_for, order_for}
-use Rattle.parts.specs.Parts.{parts_of, part_shared, InRun}
-use Rattle.spelling.specs.Ribbons.{InOrder, Measures, part_ribbon}
-use Rattle.greedy.specs.Answers.{LayOutcome, lay_outcome}
+use Rattle.spelling.specs.Ribbons.{InOrder, Measures}
+use Rattle.greedy.specs.Answers.{lay_outcome}
 use Rattle.layout.specs.Calls.{Gives, answer_of, order_outcome, kept_outcome}
 use Rattle.greedy.specs.Answers as a
-use Rattle.parts.proofs.Parts.{parts_length}
 use Rattle.greedy.proofs.Answers.{by_tests}
 use Rattle.layout.specs.declared.Laid.{Laid}
-use Rattle.layout.specs.declared.Laid.TheVariants.{Ribbon}
+use Rattle.lists.specs.declared.numbers.Refusal.{Refusal}
+
+-- what is cut from a run are its codes
+pub cut_parts : (run : Run) {ks : List (List ℕ)} → ks ≡ words_of run → ks ≡ codes_in run.bytes.now run.sizes.now
+cut_parts run e = e
 
 -- the ribbon of an order: too long for the buffer, or written
-module _ {run starts sizes : List ℕ} {n : ℕ} {p : List ℕ} {bands saved : ℕ} (m : Measures run starts sizes n p bands saved)
-    (buffer : List ℕ) where
-  room : (t : Bool) → ltb (length buffer) bands ≡ t → ltb (length buffer) (length (part_ribbon run starts sizes n p)) ≡ t
+module _ {ks : List (List ℕ)} {p : List ℕ} {bands saved : ℕ} (m : Measures ks p bands saved) (buffer : List ℕ) where
+  room : (t : Bool) → ltb (length buffer) bands ≡ t → ltb (length buffer) (length (read_piece turned ks p)) ≡ t
   room t e = ap (ltb (length buffer)) (sym m.long) ∙ e
 
-  pub gives_short : {r : Laid} → length buffer < bands → answer_of r ≡ a.refused (whole short_buffer_number)
-      → Gives (order_outcome (parts_of run starts sizes n) p buffer) buffer r
+  pub gives_short : {r : Result Laid Refusal} → length buffer < bands → answer_of r ≡ a.refused (whole short_buffer_number)
+      → Gives (order_outcome ks p buffer) buffer r
   unfolding order_outcome
   gives_short l e =
       let t = room true (lt-ltb (length buffer) bands l) in
       record { answer = rw (t, order_outcome) e; left = rw (t, order_outcome) }
 
-  pub gives_ribbon : {after : List ℕ} → bands ≤ length buffer → after ≡ over (part_ribbon run starts sizes n p) buffer
-      → Gives (order_outcome (parts_of run starts sizes n) p buffer) after (Ribbon bands saved)
+  pub gives_ribbon : {after : List ℕ} → bands ≤ length buffer → after ≡ over (read_piece turned ks p) buffer
+      → Gives (order_outcome ks p buffer) after (Ok (record { bands = bands; saved = saved }))
   unfolding order_outcome
   gives_ribbon l e =
       let t = room false (le-ltb (length buffer) bands l) in
       record { answer = rw (t, order_outcome) (cc (m.long, m.saves)); left = rw (t, order_outcome) e }
 
 -- the kept codes, laid out in the order that joining gives
-module _ (run starts sizes : List ℕ) (n : ℕ) {before after : List ℕ} {r : ℕ}
-    (o : Wrote (order_of n (part_shared run starts sizes n)) before after r) where
-  abbrev order : List ℕ
-  order = order_of n (part_shared run starts sizes n)
+module _ (ks : List (List ℕ)) {before after : List ℕ} {r : ℕ} (o : Wrote (order_for turned ks) before after r) where
+  taken : take r after ≡ order_for turned ks
+  taken = cc (o.count, o.written, take-append_seam (order_for turned ks) (drop (length (order_for turned ks)) before))
 
-  taken : take r after ≡ order
-  taken = cc (o.count, o.written, take-append_seam order (drop (length order) before))
-
-  pub counted : n ≤ 128 → r ≤ 256
-  counted h = omega (arith, o.count, order_short n (part_shared run starts sizes n))
-
-  pub in_order : InRun run starts sizes n → InOrder run starts sizes n (take r after)
-  in_order h =
+  pub in_order : r ≤ 256 → InOrder ks (take r after)
+  in_order few =
       rw taken
       (record {
-        in_run = h;
-        few = omega (arith, order_short n (part_shared run starts sizes n), h.few);
-        faces = λ k l. each_at order (order_within n (part_shared run starts sizes n)) k l;
+        few = omega (arith, o.count);
+        faces = λ k l. each_at (order_for turned ks) (order_within (length ks) (shared turned ks)) k l;
       })
     where
-      each_at : (p : List ℕ) → Each (λ (f : ℕ). f < 2 * n) p → (k : ℕ) → k < length p → get_or p k 0 < 2 * n
+      each_at : (p : List ℕ) → Each (λ (f : ℕ). f < 2 * length ks) p → (k : ℕ) → k < length p → get_or p k 0 < 2 * length ks
       each_at [] t k l = absurd (omega arith)
       each_at (f ∷ p) t zero l = t.0
       each_at (f ∷ p) t (suc k) l = each_at p t.1 k (omega arith)
 
-  pub gives_ordered : (buffer : List ℕ) {left : List ℕ} {x : Laid}
-      → Gives (order_outcome (parts_of run starts sizes n) (take r after) buffer) left x
-      → Gives (kept_outcome (parts_of run starts sizes n) buffer) left x
-  gives_ordered buffer g =
-      let ks = parts_of run starts sizes n in
-      let p : take r after ≡ order_for turned ks = rw (parts_length run starts sizes n) taken in
-      let q = ap (λ (l : List ℕ). order_outcome ks l buffer) p in
-      record {
-        answer = g.answer ∙ ap (λ (u : LayOutcome). u.answer) q;
-        left = g.left ∙ ap (λ (u : LayOutcome). u.after) q;
-      }
+  pub gives_ordered : (buffer : List ℕ) {left : List ℕ} {x : Result Laid Refusal}
+      → Gives (order_outcome ks (take r after) buffer) left x → Gives (kept_outcome ks buffer) left x
+  gives_ordered buffer g = rw taken at g
 
 -- the whole: a false list is refused before anything, and else the outcome is that of the kept codes
 module _ (run ls buffer : List ℕ) where
@@ -108,10 +96,10 @@ module _ (run ls buffer : List ℕ) where
   outcome_kept : list_ok_lem run ls ≡ true → lay_outcome run ls buffer ≡ kept_outcome (kept turned cs) buffer
   outcome_kept e = ap (λ (t : Bool). by_tests run ls buffer (not t) short) e ∙ sym (kept_by short refl)
 
-  pub gives_false : {r : Laid} → list_ok_lem run ls ≡ false → answer_of r ≡ a.refused (whole false_list_number)
+  pub gives_false : {r : Result Laid Refusal} → list_ok_lem run ls ≡ false → answer_of r ≡ a.refused (whole false_list_number)
       → Gives (lay_outcome run ls buffer) buffer r
   gives_false e f = rw (outcome_false e) (record { answer = f; left = refl })
 
-  pub gives_kept : {cs : List (List ℕ)} {after : List ℕ} {r : Laid} → list_ok_lem run ls ≡ true
-      → cs ≡ kept turned (codes_in run ls) → Gives (kept_outcome cs buffer) after r → Gives (lay_outcome run ls buffer) after r
-  gives_kept e f g = rw (outcome_kept e, ← f) g
+  pub gives_kept : {after : List ℕ} {r : Result Laid Refusal} → list_ok_lem run ls ≡ true
+      → Gives (kept_outcome (kept turned cs) buffer) after r → Gives (lay_outcome run ls buffer) after r
+  gives_kept e g = rw (outcome_kept e) g

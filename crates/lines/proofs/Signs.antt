@@ -1,9 +1,8 @@
--- Numbers of 32 bits with a sign. How far one is from zero, as it is computed: one at or above zero is cast; one below is
--- widened to 64 bits, where it has an opposite, and that is cast. As it is written: so far, behind a `-` if below zero.
-use mathlib.Core.Path.{◌≡◌, refl, sym, ap, subst⁻¹, ◌∙◌}
+-- How far a number of 32 bits with a sign is from zero, by casts: one at or above zero is cast; one below is widened to 64 bits,
+-- where it has an opposite, and that is cast.
+use mathlib.Core.Path.{◌≡◌, sym, ap, subst⁻¹, ◌∙◌}
 use mathlib.Core.Bool.{true, false, true≢false}
-use mathlib.Core.List.{List, ◌++◌}
-use Prim.Native.Nat.{ℕ, suc, ◌≤◌, ◌<◌}
+use Prim.Native.Nat.{◌<◌}
 use native.Mathlib.Omega.{arith}
 use lib.Dec.{T}
 use lib.IntN.{ℤ, pos, negsuc, nat_abs, ◌-ℤ◌}
@@ -12,13 +11,6 @@ use mir.Syntax.{w32, w64}
 use mir.Val.{Fits, SFits, to_z, of_z}
 use mir.ValLaws.{to_z-of_z}
 use borrow.Author.Tests.{le-leb}
-use lib.ListN.{length}
-use Rattle.words.specs.Texts.{text}
-use Rattle.words.specs.Written.{Written}
-use Rattle.words.proofs.Written.{written_as, both_written}
-use Rattle.sheets.specs.Decimal.{decimal}
-use Rattle.sheets.proofs.Decimal.{decimal_few}
-use Rattle.programs.specs.Programs.{signed}
 
 -- what a cast to 32 bits without sign asks
 abbrev Castable : ℤ → Type 0
@@ -52,19 +44,6 @@ below (negsuc n) f t =
       as_far = omega arith;
     }
 
--- as it is written
-signed_above : (z : ℤ) → le_z (pos 0) z ≡ true → signed z ≡ decimal (nat_abs z)
-signed_above (pos n) t = refl
-signed_above (negsuc n) t = absurd (true≢false (sym t))
-
-signed_below : (z : ℤ) → le_z (pos 0) z ≡ false → signed z ≡ text "-" ++ decimal (nat_abs z)
-signed_below (pos n) t = absurd (true≢false (sym (le-leb 0 n (omega arith)) ∙ t))
-signed_below (negsuc n) t = refl
-
-pub eleven_bytes : (z : ℤ) → SFits w32 z → length (signed z) ≤ 11
-eleven_bytes (pos n) f = omega (arith, decimal_few n (small (pos n) f))
-eleven_bytes (negsuc n) f = omega (arith, decimal_few (suc n) (small (negsuc n) f))
-
 module _ (d : ℤ) (f : SFits w32 d) where
   abbrev d32 : ℤ
   d32 = to_z w32 (of_z w32 d)
@@ -84,13 +63,6 @@ module _ (d : ℤ) (f : SFits w32 d) where
   pub wide_fits : SFits w64 d32
   wide_fits = subst⁻¹ (SFits w64) same32 (wide d f)
 
-  pub ten_digits : {n : ℕ} → n ≡ nat_abs d32 → length (decimal n) ≤ 10
-  ten_digits {n} e = decimal_few n (omega (arith, ap nat_abs same32, small d f))
-
-  pub put_above : {row after : List ℕ} {at end n : ℕ} → le_z (pos 0) d32 ≡ true → n ≡ nat_abs d32
-      → Written row at (decimal n) after end → Written row at (signed d) after end
-  put_above t e w = written_as (ap signed (sym same32) ∙ signed_above d32 t ∙ ap decimal (sym e)) w
-
   module _ (t : le_z (pos 0) d32 ≡ false) where
     from_zero : Opposite d
     from_zero = below d f (ap (le_z (pos 0)) (sym same32) ∙ t)
@@ -106,9 +78,3 @@ module _ (d : ℤ) (f : SFits w32 d) where
 
     pub as_far_from_zero : nat_abs (to_z w64 (of_z w64 (pos 0 -ℤ d64))) ≡ nat_abs d
     as_far_from_zero = ap nat_abs opposite_is ∙ from_zero.as_far
-
-    pub put_below : {row mid after : List ℕ} {at k end n : ℕ} → at ≤ length row → n ≡ nat_abs d32 → Written row at (text "-") mid k
-        → Written mid k (decimal n) after end → Written row at (signed d) after end
-    put_below l e v w =
-        written_as (ap signed (sym same32) ∙ signed_below d32 t ∙ ap (λ (m : ℕ). text "-" ++ decimal m) (sym e))
-        (both_written l v w)

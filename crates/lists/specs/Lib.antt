@@ -5,3 +5,4 @@ pub mod Outcome
 pub mod Rules
 pub mod Fit
 pub mod Answers
+pub mod Handed

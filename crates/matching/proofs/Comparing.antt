@@ -1,19 +1,19 @@
 -- Comparing the last k bands of one word with the first k of another, from the left: while all bands passed are alike,
 -- the test of what is left is the test of the whole.
 use mathlib.Core.Path.{◌≡◌, refl, sym, ap, ◌∙◌}
-use mathlib.Core.Bool.{true, false}
+use mathlib.Core.Bool.{false}
 use mathlib.Core.List.{List, [], ◌∷◌}
 use Prim.Native.Nat.{ℕ, suc, ◌+◌, ◌-◌, ◌≤◌, ◌<◌}
 use native.Mathlib.Nat.{add-zero}
 use native.Mathlib.Numerals.{add-one}
 use native.Mathlib.Omega.{arith}
 use borrow.Author.Tests.{eq-eqb, ne_eqb}
-use lib.ListN.{length, take, drop, get_or, length-append, drop_of_length-le}
-use lib.Seq.{drop-cons, get_or-take, length-take-le, take_all}
+use lib.ListN.{length, take, drop, get_or, length-append}
+use lib.Seq.{drop-cons, get_or-take, length-take-le}
 use Rattle.words.specs.Tests.{same}
 use Rattle.words.specs.Overlap.{agrees}
 use Rattle.words.specs.Stand.{begins}
-use Rattle.words.proofs.Deciding.{refuses, is_same}
+use Rattle.words.proofs.Deciding.{refuses}
 use Rattle.words.proofs.Standing.{is_beginning}
 
 same_more : (x y : List ℕ) (i j : ℕ) → i < length x → j < length y → get_or x i 0 ≡ get_or y j 0
@@ -60,19 +60,10 @@ module _ {a b : List ℕ} {n k : ℕ} where
         let p : i < length (take k b) = omega (arith, size) in
         c.left ∙ same_stop a (take k b) (n + i) i o p (λ h. e (h ∙ get_or-take k b i 0 l))
 
-    pub compared_all : k ≤ i → agrees a b k ≡ true
-    compared_all l =
-        let o : length a ≤ n + i = omega (arith, c.ending) in
-        let p : length (take k b) ≤ i = omega (arith, size) in
-        c.left ∙ rw (drop_of_length-le a o, drop_of_length-le (take k b) p)
-
 -- Whole words: all bands of the one are an ending of k bands.
 module _ (a b : List ℕ) (k : ℕ) (e : k ≡ length a) where
   all_of : agrees a b k ≡ same a (take k b)
   all_of = let m : length a - k ≡ 0 = omega arith in rw m
-
-  pub agrees_same : k ≡ length b → agrees a b k ≡ same a b
-  agrees_same l = all_of ∙ rw (take_all k b (omega arith))
 
   pub agrees_begins : k ≤ length b → agrees a b k ≡ begins a b
   agrees_begins l = all_of ∙ rw e (go a b (rw e at l))
@@ -81,9 +72,6 @@ module _ (a b : List ℕ) (k : ℕ) (e : k ≡ length a) where
       go [] y l = refl
       go (c ∷ x) [] l = absurd (omega arith)
       go (c ∷ x) (d ∷ y) l = rw (go x y (omega arith))
-
-pub other_length : (a b : List ℕ) → (length a ≡ length b → ⊥) → same a b ≡ false
-other_length a b h = refuses (is_same a b) (λ e. h (ap length e))
 
 pub begins_longer : (a b : List ℕ) → length b < length a → begins a b ≡ false
 begins_longer a b l =

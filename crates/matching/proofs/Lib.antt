@@ -1,4 +1,5 @@
--- What the loops know at each turn, and what follows when they end.
+-- The size of a form; what the loops know at each turn, and what follows when they end.
+pub mod Sizes
 pub mod Comparing
 pub mod Trying
 pub mod Passing

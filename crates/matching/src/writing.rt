@@ -1,21 +1,20 @@
-// Writing a word on a row.
+// Writing a word on a row. The caller lends the row whole, with the place to write at, and goes on behind the word.
 ghost use Rattle.std.specs.Prelude.{◌+◌, ◌-◌, ◌≤◌, length, drop};
-ghost use Rattle.words.specs.Ways.{way_of};
 ghost use Rattle.words.specs.Written.{Written};
+ghost use Rattle.matching.specs.Forms.{bands_of};
 
-use crate::bands::band_at;
+use crate::Form;
 
-// A way of c past its first bands, as many as `skip`, is written on the row from `at` on; the answer is the place behind it.
-pub fn put_way(c: &[u8], turned: bool, skip: usize, row: &mut [u8], at: usize) -> usize
-    requires { (skip ≤ length c.now) × (at + (length c.now - skip) ≤ length row.old) }
-    ensures { Written row.old at (drop skip (way_of turned c.now)) row.new result }
+// A form past its first bands, as many as `skip`, is written on the row from `at` on; the answer is the place behind it.
+pub fn put_way(form: Form<'_>, skip: usize, row: &mut [u8], at: usize) -> usize
+    requires { (skip ≤ length form.word.now) × (at + (length form.word.now - skip) ≤ length row.old) }
+    ensures { Written row.old at (drop skip (bands_of form.entry)) row.new result }
 {
-    let mut j = 0;
-    while j < c.len() - skip {
-        row[at + j] = band_at(c, turned, skip + j);
-        j += 1;
+    let n = form.len() - skip;
+    for (j, band) in row[at..at + n].iter_mut().enumerate() {
+        *band = form.band(skip + j);
     }
-    at + j
+    at + n
 }
 
 // c is written on the row from `at` on; the answer is the place behind it.
@@ -23,5 +22,7 @@ pub fn put_word(c: &[u8], row: &mut [u8], at: usize) -> usize
     requires { at + length c.now ≤ length row.old }
     ensures { Written row.old at c.now row.new result }
 {
-    put_way(c, false, 0, row, at)
+    let end = at + c.len();
+    row[at..end].copy_from_slice(c);
+    end
 }

@@ -7,7 +7,8 @@ use Prim.Native.Nat.{ℕ, ◌<◌}
 use native.Mathlib.Omega.{arith}
 use Rattle.words.specs.Lists.{In, Each}
 use Rattle.words.proofs.Lists.{each_map}
-use Rattle.lists.specs.Refusals.{long_file_number, broken_row_number, wrong_width_number, wrong_heading_number, bad_name_number, no_bands_number, long_code_number, unknown_colour_number}
+use Rattle.lists.specs.Refusals.{long_file_number, broken_row_number, wrong_width_number, wrong_heading_number}
+use Rattle.lists.specs.Refusals.{bad_name_number, no_bands_number, long_code_number, unknown_colour_number}
 use Rattle.lists.specs.Refusals.{name_taken_number, list_full_number, empty_list_number}
 use Rattle.lists.specs.Rules.{Band, CodeRule}
 use Rattle.grammar.specs.Files.{Orders}

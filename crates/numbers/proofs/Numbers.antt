@@ -20,9 +20,8 @@ use Rattle.greedy.specs.Answers.{LayAnswer, LayOutcome, LaysInto}
 use Rattle.greedy.specs.Answers as lays
 use Rattle.checking.specs.Answers.{CheckAnswer, CheckOutcome, PlaceRecord, ChecksInto}
 use Rattle.checking.specs.Answers as checks
-use Rattle.places.specs.Calls.{record_of_lem}
+use Rattle.places.specs.Calls.{record_of_lem, place_for}
 use Rattle.places.specs.declared.Place.{Place}
-use Rattle.places.specs.declared.Way.TheVariants.{Given}
 use Rattle.sheets.specs.Answers.{SheetAnswer, SheetOutcome, SheetsInto}
 use Rattle.sheets.specs.Answers as sheets
 use Rattle.programs.specs.Programs.{WritesOver}
@@ -77,7 +76,7 @@ module _ {run ls row : List ℕ} {records : List PlaceRecord} where
   alone_number room (checks.filled rs f a l o d r) = tt
 
 any_record : Place
-any_record = record { code = 0; way = Given 0 }
+any_record = place_for 0 [] []
 
 -- Writing a sheet.
 abbrev SheetNumber : SheetAnswer → Type 0

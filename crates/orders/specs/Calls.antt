@@ -1,41 +1,39 @@
 -- The contract of the public call that reads an order list: its answer and what it leaves in lent memory are the defined
 -- ones.
-use Rattle.std.specs.Prelude.{◌≡◌, ◌⊎◌, List, ℕ, ◌<◌}
+use Rattle.std.specs.Prelude.{◌≡◌, List, ℕ, ◌<◌, Result, Ok, Err}
 use Rattle.lists.specs.Refusals.{short_buffer_number}
 use Rattle.lists.specs.Answers.{refusal_of}
+use Rattle.lists.specs.declared.numbers.Refusal.{Refusal}
 use Rattle.grammar.specs.Files as files
-use Rattle.entries.specs.Gathering.{Gathers}
+use Rattle.entries.specs.Gathering.{Gathering}
 use Rattle.grammar.specs.Grammar.{Reads}
 use Rattle.grammar.specs.HandsOn.{HandedOn}
 use Rattle.grammar.specs.Answers.{Lent, result_of, put_into, ReadAnswer, ReadOutcome, refused, read, counts, Short}
 use Rattle.grammar.specs.Answers.{outcome_for, read_outcome}
 use Rattle.entries.specs.declared.collect.Gathered.{Gathered}
-use Rattle.orders.specs.declared.Read.{Read}
-use Rattle.orders.specs.declared.Read.TheVariants.{Refused, Orders}
+use Rattle.orders.specs.declared.Orders.{Orders}
 
--- document 01's number and values for each case of the enum
-abbrev pub answer_of : Read → ReadAnswer
-answer_of (Refused r) = refused (refusal_of r)
-answer_of (Orders codes bands names) = read codes bands names
+-- what the call answers
+abbrev pub Answer : Type 0
+Answer = Result Orders Refusal
+
+-- document 01's number and values for it
+abbrev pub answer_of : Answer → ReadAnswer
+answer_of (Ok o) = read o.codes o.bands o.names
+answer_of (Err r) = refused (refusal_of r)
 
 -- what a call hands back, and what the lent buffers hold after it, are this outcome's
-pub record Gives (o : ReadOutcome) (left : Lent) (r : Read) : Type 0 where
+pub record Gives (o : ReadOutcome) (left : Lent) (r : Answer) : Type 0 where
   pub answer : answer_of r ≡ o.answer
   pub after : left ≡ o.after
 
 -- a call on a file and lent buffers
-abbrev pub ReadsAs : List ℕ → Lent → Lent → Read → Type 0
+abbrev pub ReadsAs : List ℕ → Lent → Lent → Answer → Type 0
 ReadsAs file before left r = Gives (read_outcome file before) left r
 
--- 13's condition in numbers: what was gathered is more than a buffer has room for
-abbrev pub Lacks : Gathered → ℕ → ℕ → ℕ → ℕ → Type 0
-Lacks all bands ls names sizes =
-    (bands < all.bands) ⊎ ((ls < all.codes) ⊎ ((names < all.names) ⊎ (sizes < all.codes)))
-
--- from what was gathered on: whichever answer for a file that is, the outcome is that answer's
-abbrev pub HandsOver : Gathered → List ℕ → List ℕ → List ℕ → List ℕ → Lent → Lent → Read → Type 0
-HandsOver all bands ls names sizes before left r =
-    (x : files.Orders) → Gathers x bands ls names sizes all → Gives (outcome_for x before) left r
+-- from what was gathered on: whichever orders those are, the outcome is that answer's
+abbrev pub HandsOver : Gathered → Lent → Lent → Answer → Type 0
+HandsOver all before left r = (x : files.Orders) → Gathering x all → Gives (outcome_for x before) left r
 
 -- What the call means in document 01's words. Where it answers with orders: these names and codes are what is written in
 -- the file, which keeps the rules; they stand at the beginnings of the buffers, each long enough, and the later calls take
@@ -55,11 +53,11 @@ pub data Refuses (file : List ℕ) (before : Lent) : ℕ → ℕ → Type 0 wher
   in_buffers : {ns cs : List (List ℕ)} → Reads file (files.orders 0 0 ns cs) → Short before (result_of ns cs)
       → Refuses file before short_buffer_number 0
 
-abbrev pub Means : List ℕ → Lent → Lent → Read → Type 0
-Means file before left (Refused r) = Refuses file before r.number r.row × (left ≡ before)
-Means file before left (Orders codes bands names) = Accepts file before left codes bands names
+abbrev pub Means : List ℕ → Lent → Lent → Answer → Type 0
+Means file before left (Ok o) = Accepts file before left o.codes o.bands o.names
+Means file before left (Err r) = Refuses file before (refusal_of r).number (refusal_of r).row × (left ≡ before)
 
 -- What reading an order list promises: the one outcome that is defined, and what it means.
-pub record ReadsOrders (file : List ℕ) (before left : Lent) (r : Read) : Type 0 where
+pub record ReadsOrders (file : List ℕ) (before left : Lent) (r : Answer) : Type 0 where
   pub gives : ReadsAs file before left r
   pub means : Means file before left r

@@ -1,85 +1,49 @@
 // What was read, copied into the lent buffers where each is long enough.
-ghost use Rattle.std.specs.Prelude.{◌≡◌, ◌≤◌, length, take};
-ghost use Rattle.words.specs.Decides.{Decides};
+ghost use Rattle.std.specs.Prelude.{◌≡◌, ◌≤◌, ◌↔◌, length, IsTrue};
 ghost use Rattle.lists.specs.Runs.{over};
-ghost use Rattle.entries.specs.Gathering.{Roomy};
 ghost use Rattle.grammar.specs.Answers.{lent};
-ghost use Rattle.orders.specs.Calls.{Lacks, HandsOver};
+ghost use Rattle.orders.specs.Calls.{HandsOver};
 
-use crate::Read;
+use crate::Orders;
 use entries::Gathered;
-use lists::Refusal;
-
-pub fn refused(number: u8, row: u32) -> Read
-    ensures { result ≡ Read.Refused (record { number = number; row = row }) }
-{
-    Read::Refused(Refusal {
-        number: number,
-        row: row,
-    })
-}
-
-// Whether a buffer is too short for what was gathered: they have room for so many bands, lengths, bytes of names and sizes.
-#[tactic(auto, using(crate::proofs::HandingOver::lacks_some, crate::proofs::HandingOver::lacks_last))]
-fn lacks(all: Gathered, bands: usize, lengths: usize, names: usize, sizes: usize) -> bool
-    ensures { Decides (Lacks all bands lengths names sizes) result }
-{
-    if bands < all.bands {
-        return true;
-    }
-    if lengths < all.codes {
-        return true;
-    }
-    if names < all.names {
-        return true;
-    }
-    sizes < all.codes
-}
+use lists::{Fault, Refusal, Run};
 
 // The answer, with the words that were gathered written into the lent buffers where each is long enough.
 pub fn hand_over(
     all: Gathered,
-    code_run: &[u8],
-    code_lengths: &[u16],
-    name_run: &[u8],
-    name_lengths: &[u16],
     bands: &mut [u8],
     lengths: &mut [u16],
     names: &mut [u8],
     sizes: &mut [u16],
-) -> Read
-    requires { (all.bands ≤ 16384) × (all.names ≤ 16384) × (all.codes ≤ 128) × Roomy code_run.now code_lengths.now name_run.now name_lengths.now }
-    ensures { HandsOver all code_run.now code_lengths.now name_run.now name_lengths.now (lent bands.old lengths.old names.old sizes.old) (lent bands.new lengths.new names.new sizes.new) result }
+) -> Result<Orders, Refusal>
+    requires { (length all.codes.sizes.now ≤ 128) × (length all.codes.bytes.now ≤ 16384) × (length all.names.bytes.now ≤ 16384) }
+    ensures { HandsOver all.entry (lent bands.old lengths.old names.old sizes.old) (lent bands.new lengths.new names.new sizes.new) result }
 {
-    let number = all.number;
-    let codes = all.codes;
-    let band_count = all.bands;
-    let name_count = all.names;
-    if number != 0 {
-        return refused(number, all.row);
+    if !has_room(all.codes, bands, lengths) || !has_room(all.names, names, sizes) {
+        return Err(Fault::ShortBuffer.into());
     }
-    if lacks(all, bands.len(), lengths.len(), names.len(), sizes.len()) {
-        return refused(lists::SHORT_BUFFER, 0);
-    }
-    matching::put_word(&code_run[..band_count], bands, 0);
-    copy_lengths(code_lengths, codes, lengths);
-    matching::put_word(&name_run[..name_count], names, 0);
-    copy_lengths(name_lengths, codes, sizes);
-    Read::Orders {
-        codes: codes as u32,
-        bands: band_count as u32,
-        names: name_count as u32,
-    }
+    put_run(all.codes, bands, lengths);
+    put_run(all.names, names, sizes);
+    Ok(Orders {
+        codes: all.codes.sizes.len() as u32,
+        bands: all.codes.bytes.len() as u32,
+        names: all.names.bytes.len() as u32,
+    })
 }
 
-// The first n lengths, written at the beginning of a buffer.
-fn copy_lengths(from: &[u16], n: usize, to: &mut [u16])
-    requires { (n ≤ length from.now) × (n ≤ length to.old) }
-    ensures { to.new ≡ over (take n from.now) to.old }
+// Whether two buffers are long enough for these words and their lengths.
+fn has_room(run: Run, bytes: &[u8], sizes: &[u16]) -> bool
+    ensures { IsTrue result ↔ ((length run.entry.bytes.now ≤ length bytes.now) × (length run.entry.sizes.now ≤ length sizes.now)) }
 {
-    let mut i = 0;
-    while i < n {
-        to[i] = from[i];
-        i += 1;
-    }
+    run.bytes.len() <= bytes.len() && run.sizes.len() <= sizes.len()
+}
+
+// The words and their lengths, written at the beginnings of two buffers.
+fn put_run(run: Run, bytes: &mut [u8], sizes: &mut [u16])
+    requires { (length run.bytes.now ≤ length bytes.old) × (length run.sizes.now ≤ length sizes.old) }
+    ensures bytes { bytes.new ≡ over run.entry.bytes.now bytes.old }
+    ensures sizes { sizes.new ≡ over run.entry.sizes.now sizes.old }
+{
+    bytes[..run.bytes.len()].copy_from_slice(run.bytes);
+    sizes[..run.sizes.len()].copy_from_slice(run.sizes);
 }

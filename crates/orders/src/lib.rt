@@ -7,33 +7,33 @@ ghost use Rattle.orders.specs.Calls.{ReadsOrders};
 mod handover; // the lent buffers filled
 
 use entries::gather;
-use handover::{hand_over, refused};
-use lists::{MOST_CODES, MOST_FILE_BYTES, Refusal};
+use handover::hand_over;
+use lists::{Fault, MOST_CODES, MOST_FILE_BYTES, Refusal};
 
-// What reading an order list answers: refused; or how many codes there are, how many bands in them, and how many bytes
-// of names.
-#[derive(Clone, Copy)]
-pub enum Read {
-    Refused(Refusal),
-    Orders { codes: u32, bands: u32, names: u32 },
+// What an order list holds: how many codes there are, how many bands in them, and how many bytes of names.
+#[derive(Clone, Copy, Debug, PartialEq, Eq)]
+pub struct Orders {
+    pub codes: u32,
+    pub bands: u32,
+    pub names: u32,
 }
 
 // Reads an order list into four lent buffers: for the codes their run and a length each, for the names their run and a
-// length each. A refused call changes no lent byte.
+// length each, as C lends them. A refused call changes no lent byte.
 pub fn read_orders(
     file: &[u8],
     bands: &mut [u8],
     lengths: &mut [u16],
     names: &mut [u8],
     sizes: &mut [u16],
-) -> Read
+) -> Result<Orders, Refusal>
     ensures { ReadsOrders file.now (lent bands.old lengths.old names.old sizes.old) (lent bands.new lengths.new names.new sizes.new) result }
 {
     if MOST_FILE_BYTES < file.len() {
-        return refused(lists::LONG_FILE, 0);
+        return Err(Fault::LongFile.into());
     }
-    if file.len() == 0 {
-        return refused(lists::WRONG_HEADING, 0);
+    if file.is_empty() {
+        return Err(Fault::WrongHeading.into());
     }
     let mut code_run = [0u8; MOST_FILE_BYTES];
     let mut code_lengths = [0u16; MOST_CODES];
@@ -45,16 +45,6 @@ pub fn read_orders(
         &mut code_lengths,
         &mut name_run,
         &mut name_lengths,
-    );
-    hand_over(
-        all,
-        &code_run,
-        &code_lengths,
-        &name_run,
-        &name_lengths,
-        bands,
-        lengths,
-        names,
-        sizes,
-    )
+    )?;
+    hand_over(all, bands, lengths, names, sizes)
 }

@@ -1,10 +1,12 @@
-// The outcomes of calls as the trials tell them: answers, and lent place records before and after.
+// The outcomes of calls as the trials tell them: answers, and lent buffers before and after.
 #![tactic(auto)]
 
 mod answers; // of calls, said
-mod lent_records; // place records before and after a call
-mod recorded; // a check into lent records
+mod items; // of buffers
+mod lent; // buffers before and after a call
+mod records; // place records among them
 
-pub use answers::{say_checked, say_laid, say_read, say_wrote};
-pub use lent_records::{blank_records, marked_records, tell_records, widened};
-pub use recorded::{MOST_RECORDS, check_front};
+pub use answers::{Answer, say_answer};
+pub use items::{Item, Listed};
+pub use lent::{MOST_BYTES, MOST_NUMBERS, lend, lent_row, say_items, tell, tell_since};
+pub use records::{MOST_RECORDS, blank_record};

@@ -1,60 +1,41 @@
--- The rows of a sheet one by one: the first i of them and the rest are all, and there is room for each.
-use mathlib.Core.Path.{◌≡◌, refl, sym, ap, ◌∙◌}
-use mathlib.Core.List.{List, [], ◌∷◌, ◌++◌, append_assoc, append-nil}
-use Prim.Native.Nat.{ℕ, zero, suc, ◌+◌, ◌≤◌, ◌<◌}
+-- The rows of a sheet one by one: the row of a code and those behind it are the rows from that code on.
+use mathlib.Core.Path.{◌≡◌, refl, ap, ◌∙◌}
+use mathlib.Core.List.{List, [], ◌∷◌, ◌++◌}
+use Prim.Native.Nat.{ℕ, ◌+◌, ◌≤◌, ◌<◌}
 use native.Mathlib.Numerals.{add-one}
 use native.Mathlib.Omega.{arith}
-use lib.ListN.{length, drop, length-append}
-use lib.Seq.{drop-cons, drop-length}
+use lib.ListN.{length, drop, drop_of_length-le, length-append}
+use lib.Seq.{drop-cons}
 use Rattle.lists.specs.Runs.{codes_in}
 use Rattle.lists.proofs.Runs.{codes_count}
 use Rattle.sheet_rows.specs.Shows.{unset}
-use Rattle.sheet_rows.specs.Placed.{RowsThere, nth_row, placed_rows}
-use Rattle.sheet_rows.specs.declared.Shown.{Shown}
+use Rattle.sheet_rows.specs.Placed.{placed_rows}
+use Rattle.sheet_rows.specs.Sheets.{nth}
+use Rattle.sheet_rows.specs.declared.rows.Rows.{Rows}
+use Rattle.sheet_rows.specs.declared.pieces.Shown.{Shown}
 
 no_rows : (names : List (List ℕ)) (ss : List Shown) (ribbon : List ℕ) → placed_rows names [] ss ribbon ≡ []
 no_rows [] ss ribbon = refl
 no_rows (n ∷ ns) ss ribbon = refl
 
-module _ (names sizes ls : List ℕ) (ss : List Shown) (ribbon : List ℕ) where
-  -- the first i rows, and the others
-  abbrev pub first : ℕ → List ℕ
-  first zero = []
-  first (suc i) = first i ++ nth_row names sizes ls ss ribbon i
+module _ (r : Rows) where
+  -- the rows from code i on
+  abbrev pub rest : ℕ → List ℕ
+  rest i = placed_rows (drop i (codes_in r.names.now r.sizes.now)) (drop i r.lengths.now) (drop i r.shown.now) r.ribbon.now
 
-  abbrev rest : ℕ → List ℕ
-  rest i = placed_rows (drop i (codes_in names sizes)) (drop i ls) (drop i ss) ribbon
+  pub none_left : (i : ℕ) → length r.lengths.now ≤ i → rest i ≡ []
+  none_left i h =
+      rw (drop_of_length-le r.lengths.now h) (no_rows (drop i (codes_in r.names.now r.sizes.now)) (drop i r.shown.now) r.ribbon.now)
 
-  pub first_next : (i : ℕ) → first i ++ nth_row names sizes ls ss ribbon i ≡ first (i + 1)
-  first_next i = ap first (sym (add-one i))
-
-  module _ (there : RowsThere names sizes ls ss ribbon) where
-    next : (i : ℕ) → i < length ls → rest i ≡ nth_row names sizes ls ss ribbon i ++ rest (suc i)
-    next i h =
+  module _ (i : ℕ) (h : i < length r.lengths.now) where
+    pub next : rest i ≡ nth r i ++ rest (i + 1)
+    next =
         rw (
-          drop-cons (codes_in names sizes) i [] (omega (arith, codes_count names sizes, there.one_each)),
-          drop-cons ls i 0 h,
-          drop-cons ss i unset (omega (arith, there.shown_there)),
+          add-one,
+          drop-cons (codes_in r.names.now r.sizes.now) i [] (omega (arith, codes_count r.names.now r.sizes.now, r.there.one_each)),
+          drop-cons r.lengths.now i 0 h,
+          drop-cons r.shown.now i unset (omega (arith, r.there.shown_there)),
         )
 
-    split : (i : ℕ) → i ≤ length ls → placed_rows (codes_in names sizes) ls ss ribbon ≡ first i ++ rest i
-    split zero h = refl
-    split (suc i) h =
-        split i (omega (arith, h)) ∙ ap (λ (t : List ℕ). first i ++ t) (next i (omega (arith, h)))
-        ∙ sym (append_assoc (first i) (nth_row names sizes ls ss ribbon i) (rest (suc i)))
-
-    pub first_all : placed_rows (codes_in names sizes) ls ss ribbon ≡ first (length ls)
-    first_all =
-        let none : rest (length ls) ≡ [] = rw (drop-length ls) (no_rows (drop (length ls) (codes_in names sizes)) (drop (length ls) ss) ribbon) in
-        split (length ls) (omega arith) ∙ rw (none, append-nil)
-
-    -- where all rows fit behind a mark, so do the first ones
-    pub first_fit : (n m i : ℕ) → n + length (placed_rows (codes_in names sizes) ls ss ribbon) ≤ m → i ≤ length ls → n + length (first i) ≤ m
-    first_fit n m i room h = omega (arith, room, ap length (split i h), length-append (first i) (rest i))
-
-    -- and the next one behind them
-    pub next_fits : (n m i : ℕ) → n + length (placed_rows (codes_in names sizes) ls ss ribbon) ≤ m → i < length ls
-        → n + length (first i) + length (nth_row names sizes ls ss ribbon i) ≤ m
-    next_fits n m i room h =
-        let all = first_fit n m (suc i) room (omega (arith, h)) in
-        omega (arith, all, length-append (first i) (nth_row names sizes ls ss ribbon i))
+    pub next_long : length (rest i) ≡ length (nth r i) + length (rest (i + 1))
+    next_long = ap length next ∙ length-append (nth r i) (rest (i + 1))

@@ -1,3 +1,2 @@
--- What a writer is, and what it leaves.
-pub mod Filled
+-- What writing a sheet leaves.
 pub mod Pages

@@ -1,6 +1,6 @@
-// The sheet of a list written row after row into a lent buffer, where it has room.
+// The sheet of a list, row after row: how long it is, and the sheet itself on a lent buffer that has room for it.
 #![tactic(auto)]
 
 mod page;
 
-pub use page::put_sheet;
+pub use page::{put_sheet, sheet_size};

@@ -1,5 +1,4 @@
--- What the routines on parts do, over plain lists.
-pub mod Parts
--- Codes cut from the run, and those that are kept.
+-- Codes cut from a run, those that are kept, and their faces.
 pub mod Cutting
 pub mod Sieving
+pub mod Faces

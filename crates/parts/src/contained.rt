@@ -1,89 +1,40 @@
 // Dropping: a code that another holds is left out.
-ghost use Rattle.std.specs.Prelude.{◌≡◌, ◌&&◌, ◌||◌, ◌+◌, ◌<◌, ◌≤◌, eqb, ltb, length};
-ghost use Rattle.parts.specs.Parts.{InRun, part_held, part_dropped, Sieved, KeepsInto};
+ghost use Rattle.std.specs.Prelude.{◌≡◌, ◌<◌, length};
+ghost use Rattle.words.specs.Turn.{turned};
+ghost use Rattle.words.specs.Stand.{some_way};
+ghost use Rattle.greedy.specs.Dropping as d;
 
-use crate::cuts::part;
+use crate::cuts::Parts;
 
-// Longer, or equally long with a lower number.
-fn outranks_by(long: usize, j: usize, short: usize, i: usize) -> bool
-    ensures { result ≡ (ltb short long || (eqb short long && ltb j i)) }
-{
-    if short < long {
-        return true;
+impl<'a> Parts<'a> {
+    // Code j is longer than code i, or equally long with a lower number; and code i stands in it one way or the other.
+    fn held_by(&self, i: usize, j: usize) -> bool
+        requires { (i < length self.now) × (j < length self.now) }
+        ensures { result ≡ d.held_by_lem (some_way turned) self.now i j }
+    {
+        let c = self.code(i);
+        let s = self.code(j);
+        (c.len() < s.len() || c.len() == s.len() && j < i) && matching::stands(c, s)
     }
-    if short == long {
-        return j < i;
-    }
-    false
-}
 
-// Code j is longer than code i, or equally long with a lower number; and code i stands in it one way or the other.
-fn held_by(bands: &[u8], starts: &[usize], sizes: &[usize], n: usize, i: usize, j: usize) -> bool
-    requires { InRun bands.now starts.now sizes.now n × (i < n) × (j < n) }
-    ensures { result ≡ part_held bands.now starts.now sizes.now n i j }
-{
-    let c = part(bands, starts, sizes, i);
-    let s = part(bands, starts, sizes, j);
-    if outranks_by(s.len(), j, c.len(), i) {
-        return matching::stands(c, s);
+    // Code i is held by some code.
+    fn is_dropped(&self, i: usize) -> bool
+        requires { i < length self.now }
+        ensures { result ≡ d.is_dropped_lem (some_way turned) self.now i }
+    {
+        (0..self.len()).any(|j| self.held_by(i, j))
     }
-    false
-}
 
-// Code i is held by some code.
-fn is_dropped(bands: &[u8], starts: &[usize], sizes: &[usize], n: usize, i: usize) -> bool
-    requires { InRun bands.now starts.now sizes.now n × (i < n) }
-    ensures { result ≡ part_dropped bands.now starts.now sizes.now n i }
-{
-    let mut j = 0;
-    while j < n {
-        if held_by(bands, starts, sizes, n, i, j) {
-            return true;
+    // The codes that are kept, in list order.
+    pub fn kept(&self) -> Parts<'a>
+        ensures { result ≡ d.kept turned self.now }
+    {
+        let mut kept = Parts::none();
+        for i in 0..self.len() {
+            if !self.is_dropped(i) {
+                kept.push(self.code(i));
+            }
         }
-        j += 1;
+        kept
     }
-    false
-}
-
-// Part i goes behind the parts that are kept, unless it is dropped.
-fn keep_next(
-    bands: &[u8],
-    starts: &[usize],
-    sizes: &[usize],
-    n: usize,
-    i: usize,
-    kstarts: &mut [usize],
-    ksizes: &mut [usize],
-    kept: usize,
-) -> usize
-    requires { InRun bands.now starts.now sizes.now n × (i < n) × Sieved bands.now starts.now sizes.now n kstarts.old ksizes.old kept i }
-    ensures { Sieved bands.now starts.now sizes.now n kstarts.new ksizes.new result (i + 1) }
-{
-    if is_dropped(bands, starts, sizes, n, i) {
-        return kept;
-    }
-    kstarts[kept] = starts[i];
-    ksizes[kept] = sizes[i];
-    kept + 1
-}
-
-// The parts that are kept, in list order; how many.
-pub fn keep(
-    bands: &[u8],
-    starts: &[usize],
-    sizes: &[usize],
-    n: usize,
-    kstarts: &mut [usize],
-    ksizes: &mut [usize],
-) -> usize
-    requires { InRun bands.now starts.now sizes.now n × (n ≤ length kstarts.old) × (n ≤ length ksizes.old) }
-    ensures { KeepsInto bands.now starts.now sizes.now n kstarts.new ksizes.new result }
-{
-    let mut kept = 0;
-    let mut i = 0;
-    while i < n {
-        kept = keep_next(bands, starts, sizes, n, i, kstarts, ksizes, kept);
-        i += 1;
-    }
-    kept
 }

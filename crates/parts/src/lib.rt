@@ -1,8 +1,7 @@
 // The codes of a list as parts of its run of bands, and which of them are kept.
 #![tactic(auto)]
 
-mod cuts; // codes as parts of the run
 mod contained; // codes that another holds
+mod cuts; // codes as parts of the run
 
-pub use contained::keep;
-pub use cuts::{cut, part};
+pub use cuts::Parts;

@@ -5,10 +5,11 @@ use mathlib.Core.Path.{◌≡◌, refl, sym, ap, ap₂, subst, ◌∙◌}
 use mathlib.Core.Bool.{true, false, true≢false}
 use mathlib.Core.List.{List, [], ◌∷◌, ◌++◌, map-append}
 use Prim.Native.Nat.{ℕ, zero, suc, ◌+◌, ◌≤◌, ◌<◌}
+use native.Mathlib.Nat.{add-zero}
 use native.Mathlib.Numerals.{add-one}
 use native.Mathlib.Omega.{arith}
 use lib.ListN.{length, take, drop, get_or, set, length-set}
-use lib.Seq.{take-suc, take-suc-set, take_all, length-take-le, get_or-take, drop-drop, drop-set-lt}
+use lib.Seq.{take-suc, take-suc-set, take_all, length-take-le, get_or-take, get_or-drop, drop-drop, drop-set-lt}
 use Rattle.words.specs.Turn.{turned}
 use Rattle.words.specs.Lists.{Each}
 use Rattle.words.specs.Stand.{StandsSomeWay}
@@ -19,16 +20,16 @@ use Rattle.words.proofs.Standing.{stands_length}
 use Rattle.words.proofs.Placing.{finds_ours, found_exactly}
 use Rattle.lists.specs.Runs.{codes_in, total}
 use Rattle.lists.specs.Fit.{list_ok_lem}
-use Rattle.lists.specs.Rules.{FitList}
-use Rattle.lists.proofs.Runs.{codes_count, adds_up, total_more}
+use Rattle.lists.specs.Rules.{CodeRule, FitList}
+use Rattle.lists.proofs.Runs.{codes_count, adds_up}
 use Rattle.lists.proofs.Rules.{is_fit_list}
 use Rattle.greedy.specs.Dropping.{code_at}
 use Rattle.greedy.specs.Rules.{AllStand}
 use Rattle.greedy.proofs.Keeping.{code_in_lem}
 use Rattle.parts.proofs.Cutting.{code_at_lem, total_part, fit_size, fit_small}
 use Rattle.places.specs.declared.Place as declared
-use Rattle.places.specs.declared.Way.{Way}
-use Rattle.places.specs.declared.Way.TheVariants.{Given, Turned, Either}
+use Rattle.finding.specs.declared.Way.{Way}
+use Rattle.finding.specs.declared.Way.TheVariants.{Given, Turned, Either}
 use Rattle.places.specs.Starts.{StartsWithin}
 use Rattle.checking.specs.Check.{none_missing, missing, all_held, lowest, missing_on}
 use Rattle.checking.specs.Answers.{PlaceRecord, records_from}
@@ -75,10 +76,10 @@ module _ {run ls : List ℕ} (F : FitList run ls) {at i : ℕ} (there : at ≡ t
   pub next_is : take (get_or ls i 0) (drop at run) ≡ code_at (codes_in run ls) i
   next_is = ap (λ (k : ℕ). take (get_or ls i 0) (drop k run)) there ∙ sym (code_at_lem run ls i h)
 
--- The first i codes have places, whose records stand at the front, and the next code starts at `at`.
-pub record Finding (run ls row : List ℕ) (all : List declared.Place) (at i : ℕ) : Type 0 where
-  pub bound : i ≤ length ls
-  pub there : at ≡ total (take i ls)
+-- The first i codes have places, whose records stand at the front, and the others are left.
+pub record Finding (run ls row : List ℕ) (all : List declared.Place) (i : ℕ) (left : List (List ℕ)) : Type 0 where
+  pub bound : i + length left ≡ length ls
+  pub are_left : left ≡ drop i (codes_in run ls)
   pub room : length all ≡ 128
   pub are : records_of (take i all) ≡ records_from 0 (take i (codes_in run ls)) row
   pub rest : drop i all ≡ drop i blanks
@@ -87,64 +88,90 @@ blanks_long : length blanks ≡ 128
 unfolding blanks
 blanks_long = refl
 
-pub finding_none : (run ls row : List ℕ) (all : List declared.Place) → all ≡ blanks → Finding run ls row all 0 0
+pub finding_none : (run ls row : List ℕ) (all : List declared.Place) → all ≡ blanks → Finding run ls row all 0 (codes_in run ls)
 finding_none run ls row all e =
-    record { bound = omega arith; there = refl; room = ap length e ∙ blanks_long; are = refl; rest = e }
+    record {
+      bound = omega (arith, codes_count run ls);
+      are_left = refl;
+      room = ap length e ∙ blanks_long;
+      are = refl;
+      rest = e;
+    }
 
-module _ {run ls row : List ℕ} {all : List declared.Place} {at i : ℕ} (f : Finding run ls row all at i) where
-  module _ (ok : list_ok_lem run ls ≡ true) (h : i < length ls) where
-    pub next_fits : (at + get_or ls i 0 ≤ length run) × (at + get_or ls i 0 < 65536) × (i < 128) × (1 ≤ get_or ls i 0)
-        × (get_or ls i 0 ≤ 64)
-    next_fits = next_in (holds (is_fit_list run ls) ok) f.there h
+module _ {run ls row : List ℕ} {all : List declared.Place} {i : ℕ} {left : List (List ℕ)} (f : Finding run ls row all i left) where
+  module _ {c : List ℕ} {more : List (List ℕ)} (s : left ≡ c ∷ more) where
+    listed : i < length ls
+    listed = omega (arith, f.bound, ap length s)
 
-    code_is : take (get_or ls i 0) (drop at run) ≡ code_at (codes_in run ls) i
-    code_is = next_is (holds (is_fit_list run ls) ok) f.there h
+    here : drop i (codes_in run ls) ≡ c ∷ more
+    here = sym f.are_left ∙ s
 
-    pub finding_next : (p : declared.Place)
-        → record_of_lem p ≡ record { code = i; place = place_of turned 0 (take (get_or ls i 0) (drop at run)) row }
-        → Finding run ls row (set all i p) (at + get_or ls i 0) (i + 1)
-    finding_next p e =
+    code_is : c ≡ code_at (codes_in run ls) i
+    code_is =
+        let cs = codes_in run ls in
+        sym (ap (λ (ds : List (List ℕ)). get_or ds 0 []) here) ∙ get_or-drop i cs 0 [] ∙ ap (λ (k : ℕ). code_at cs k) (add-zero i)
+
+    pub next_fits : list_ok_lem run ls ≡ true → (i < 128) × (0 < length c) × (length c ≤ 64)
+    next_fits ok =
+        let cs = codes_in run ls in
+        let F = holds (is_fit_list run ls) ok in
+        let m : i < length cs = omega (arith, codes_count run ls, listed) in
+        let r : CodeRule c = rw code_is (each_in CodeRule cs (code_at cs i) F.coded (code_in_lem cs i m)) in
+        (omega (arith, F.at_most, listed), r.0, r.1)
+
+    pub finding_next : list_ok_lem run ls ≡ true → (p : declared.Place)
+        → record_of_lem p ≡ record { code = i; place = place_of turned 0 c row } → Finding run ls row (set all i p) (i + 1) more
+    finding_next ok p e =
         record {
-          bound = omega arith;
-          there = rw add-one (omega (arith, f.there, total_more ls i h));
+          bound = omega (arith, f.bound, ap length s);
+          are_left = sym (ap (drop 1) here) ∙ drop-drop 1 i (codes_in run ls);
           room = length-set all i p ∙ f.room;
-          are = rw add-one more;
+          are = rw add-one news;
           rest =
               drop-set-lt (i + 1) all i p (omega arith) ∙ sym (drop-drop 1 i all) ∙ ap (drop 1) f.rest
               ∙ drop-drop 1 i blanks;
         }
       where
-        more : records_of (take (suc i) (set all i p)) ≡ records_from 0 (take (suc i) (codes_in run ls)) row
-        more =
+        news : records_of (take (suc i) (set all i p)) ≡ records_from 0 (take (suc i) (codes_in run ls)) row
+        news =
             let cs = codes_in run ls in
-            let l : i < length all = omega (arith, next_fits.2, f.room) in
-            let m : i < length cs = omega (arith, codes_count run ls) in
+            let l : i < length all = omega (arith, (next_fits ok).0, f.room) in
+            let m : i < length cs = omega (arith, codes_count run ls, listed) in
             let n : 0 + length (take i cs) ≡ i = omega (arith, length-take-le i cs (omega arith)) in
             ap records_of (take-suc-set all i p l)
             ∙ map-append record_of_lem (take i all) (p ∷ [])
             ∙ ap₂ (λ (rs : List PlaceRecord) (r : PlaceRecord). rs ++ (r ∷ [])) f.are
-            (e ∙ ap (λ (c : List ℕ). record { code = i; place = place_of turned 0 c row }) code_is)
+            (e ∙ ap (λ (d : List ℕ). record { code = i; place = place_of turned 0 d row }) code_is)
             ∙ sym (ap (λ (ds : List (List ℕ)). records_from 0 ds row) (take-suc cs i [] m)
             ∙ records_more 0 (take i cs) (code_at cs i) row
             ∙ ap (λ (k : ℕ). records_from 0 (take i cs) row ++ (record { code = k; place = place_of turned 0 (code_at cs i) row } ∷ [])) n)
 
     -- it has no place
-    pub finding_stops : found (place_of turned 0 (take (get_or ls i 0) (drop at run)) row) ≡ false → FindsPlaces run ls row i all
+    pub finding_stops : found (place_of turned 0 c row) ≡ false → FindsPlaces run ls row i all
     finding_stops e =
         record {
-          within = f.bound;
+          within = omega (arith, f.bound);
           room = f.room;
           are = f.are;
           rest = f.rest;
-          stops = λ _. ap (λ (c : List ℕ). found (place_of turned 0 c row)) (sym code_is) ∙ e;
+          stops = λ _. ap (λ (d : List ℕ). found (place_of turned 0 d row)) (sym code_is) ∙ e;
         }
 
   -- all codes are done
-  pub finding_all : length ls ≤ i → FindsPlaces run ls row i all
-  finding_all h = record { within = f.bound; room = f.room; are = f.are; rest = f.rest; stops = λ l. absurd (omega arith) }
+  pub finding_all : left ≡ [] → FindsPlaces run ls row (length ls) all
+  finding_all e =
+      let n : i ≡ length ls = omega (arith, f.bound, ap length e) in
+      rw (← n)
+      (record {
+        within = omega arith;
+        room = f.room;
+        are = f.are;
+        rest = f.rest;
+        stops = λ l. absurd (omega arith);
+      })
 
 -- What the search for places tells: the codes whose records it has stand on the row, since no record is of no place.
-way_found : (w : Way) → found (way_at w) ≡ true
+pub way_found : (w : Way ℕ) → found (way_at w) ≡ true
 way_found (Given i) = refl
 way_found (Turned i) = refl
 way_found (Either i) = refl

@@ -11,19 +11,19 @@ use Rattle.words.specs.Place.{Place, given_at, turned_at, either_at, nowhere, pl
 use Rattle.greedy.specs.Dropping.{code_at}
 use Rattle.checking.specs.Answers.{PlaceRecord, records_from}
 use Rattle.places.specs.declared.Place as declared
-use Rattle.places.specs.declared.Way.{Way}
-use Rattle.places.specs.declared.Way.TheVariants.{Given, Turned, Either}
+use Rattle.finding.specs.declared.Way.{Way}
+use Rattle.finding.specs.declared.Way.TheVariants.{Given, Turned, Either}
 use Rattle.places.specs.Calls.{way_at, record_of_lem, records_of, way_of, place_for, places_from}
 
 -- what two records tell alike they hold alike
-back : (w : Way) → way_of (way_at w) ≡ w
+back : (w : Way ℕ) → way_of (way_at w) ≡ w
 back (Given i) = refl
 back (Turned i) = refl
 back (Either i) = refl
 
 pub record_one : {p q : declared.Place} → record_of_lem p ≡ record_of_lem q → p ≡ q
 record_one {p} {q} e =
-    ap₂ {C = declared.Place} (λ (n : ℕ) (w : Way). record { code = n; way = w }) (ap (λ (r : PlaceRecord). r.code) e)
+    ap₂ {C = declared.Place} (λ (n : ℕ) (w : Way ℕ). record { code = n; way = w }) (ap (λ (r : PlaceRecord). r.code) e)
     (sym (back p.way) ∙ ap (λ (r : PlaceRecord). way_of r.place) e ∙ back q.way)
 
 pub records_one : (ps qs : List declared.Place) → records_of ps ≡ records_of qs → ps ≡ qs

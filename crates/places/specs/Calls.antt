@@ -7,16 +7,12 @@ use Rattle.lists.specs.Fit.{list_ok_lem}
 use Rattle.greedy.specs.Dropping.{code_at}
 use Rattle.checking.specs.Answers.{PlaceRecord}
 use Rattle.checking.specs.Answers.{records_from}
-use Rattle.places.specs.declared.Way.{Way}
-use Rattle.places.specs.declared.Way.TheVariants.{Given, Turned, Either}
+use Rattle.finding.specs.declared.Way.{Way}
+use Rattle.finding.specs.declared.Way.TheVariants.{Given, Turned, Either}
+pub use Rattle.finding.specs.Answers.{way_at}
 use Rattle.places.specs.declared.Place as declared
 
 -- A lent record: the code's number, and its way with the start.
-abbrev pub way_at : Way → Place
-way_at (Given i) = given_at i
-way_at (Turned i) = turned_at i
-way_at (Either i) = either_at i
-
 abbrev pub record_of_lem : declared.Place → PlaceRecord
 record_of_lem p = record { code = p.code; place = way_at p.way }
 
@@ -24,7 +20,7 @@ abbrev pub records_of : List declared.Place → List PlaceRecord
 records_of = map record_of_lem
 
 -- The lent record of a place: the way as it is. Where there is no place nobody asks for its record.
-abbrev pub way_of : Place → Way
+abbrev pub way_of : Place → Way ℕ
 way_of (given_at i) = Given i
 way_of (turned_at i) = Turned i
 way_of (either_at i) = Either i

@@ -7,26 +7,23 @@ ghost use Rattle.places.specs.Calls.{FindsPlaces, blanks};
 
 mod records; // the record of a code
 
-use lists::MOST_CODES;
+use finding::find_place;
+use lists::{MOST_CODES, Run};
+use records::record_of;
 pub use records::{count_from, find_nth};
-use records::{is_nowhere, place_of, record_of};
 
 // A way of a code, with the start at which it stands: either for a code equal to its turned form.
-#[derive(Clone, Copy)]
-pub enum Way {
-    Given(u32),
-    Turned(u32),
-    Either(u32),
-}
+pub type Way = finding::Way<u32>;
 
 // A place record: the code's number, and its way with the start.
-#[derive(Clone, Copy)]
+#[derive(Clone, Copy, PartialEq, Eq)]
 pub struct Place {
     pub code: u32,
     pub way: Way,
 }
 
-// The records of the codes that have a place, so many, at the front of a row.
+// The records of the codes that have a place, so many, at the front of a row: no list is longer than the row, and no memory is
+// asked for.
 #[derive(Drop)]
 pub struct Sought {
     pub count: usize,
@@ -48,24 +45,19 @@ pub fn find_places(bands: &[u8], lengths: &[u16], ribbon: &[u8]) -> Sought
     requires { (list_ok_lem bands.now lengths.now ≡ true) × (length ribbon.now ≤ 16384) }
     ensures { FindsPlaces bands.now lengths.now ribbon.now result.count result.records }
 {
+    let codes = Run {
+        bytes: bands,
+        sizes: lengths,
+    };
     let mut records = blank();
-    let mut at = 0;
-    let mut i = 0;
-    while i < lengths.len() {
-        let size = lengths[i] as usize;
-        let place = place_of(bands, at, size, ribbon);
-        if is_nowhere(place) {
-            return Sought {
-                count: i,
-                records: records,
-            };
-        }
-        records[i] = record_of(place, i);
-        at += size;
-        i += 1;
+    for (i, code) in codes.enumerate() {
+        let Some(way) = find_place(code, ribbon, 0) else {
+            return Sought { count: i, records };
+        };
+        records[i] = record_of(way, i);
     }
     Sought {
-        count: i,
-        records: records,
+        count: lengths.len(),
+        records,
     }
 }

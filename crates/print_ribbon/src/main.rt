@@ -9,6 +9,7 @@ const ROOM: usize = MOST_FILE_BYTES + 1;
 // a ribbon and CR LF
 const LINE: usize = MOST_BANDS + 2;
 
+// As in `print_sheet`: all but the call and its row stands in `files` and in std.
 fn main(rt: HostRuntime) {
     let mut file = [0u8; ROOM];
     let n = files::read_whole(&mut rt.stdin(), &mut file);

@@ -6,6 +6,7 @@ use ribbons::{MOST_FILE_BYTES, MOST_SHEET_BYTES};
 // one byte more shows that a file is too long
 const ROOM: usize = MOST_FILE_BYTES + 1;
 
+// As in `print_ribbon`: all but the call and its row stands in `files` and in std.
 fn main(rt: HostRuntime) {
     let mut file = [0u8; ROOM];
     let n = files::read_whole(&mut rt.stdin(), &mut file);

@@ -1,27 +1,21 @@
 -- The line of a check is the line of its answer: a fit list is not refused, and there is room for all of its records. So each
 -- answer that is left is one for which the program's claim has the line.
-use mathlib.Core.Path.{◌≡◌, sym, ap, subst, ◌∙◌}
-use mathlib.Core.Bool.{true}
-use mathlib.Core.List.{List, []}
-use Prim.Native.Nat.{ℕ, ◌≤◌}
-use native.Mathlib.Omega.{arith}
-use lib.IntN.{ℤ}
-use lib.ListN.{length, replicate, length-replicate, length-map}
-use mir.Syntax.{w32}
-use mir.Val.{SFits, to_z, of_z}
+use Rattle.std.proofs.Common.{◌≡◌, sym, ap, subst, ◌∙◌, true, List, [], ℕ, ◌≤◌, arith, ℤ, length, replicate, w32, to_z, of_z, Result, Ok}
+use lib.ListN.{length-replicate, length-map}
+use mir.Val.{SFits}
 use mir.ValLaws.{to_z-of_z}
 use Rattle.words.proofs.Deciding.{holds}
 use Rattle.lists.specs.Refusals.{long_ribbon_number, unknown_colour_number}
 use Rattle.lists.specs.Runs.{codes_in, over}
 use Rattle.lists.specs.Fit.{list_ok_lem}
+use Rattle.lists.specs.declared.numbers.Refusal.{Refusal}
 use Rattle.lists.proofs.Rules.{codes_checked, is_fit_list}
 use Rattle.grammar.specs.RibbonFile.{ribbon_of_lem}
 use Rattle.checking.specs.Answers.{CheckAnswer, refused, missing_code, held, PlaceRecord, CheckOutcome, ChecksInto}
 use Rattle.checking.specs.Answers.{false_list, long_ribbon, no_colour, no_place, short_buffer, filled}
-use Rattle.places.specs.Calls.{record_of_lem}
+use Rattle.places.specs.Calls.{record_of_lem, place_for}
 use Rattle.verdicts.specs.Calls.{answer_of, ChecksAlone}
 use Rattle.places.specs.declared.Place as declared
-use Rattle.places.specs.declared.Way.TheVariants.{Given}
 use Rattle.verdicts.specs.declared.Checked.{Checked}
 use Rattle.verdicts.specs.declared.Checked.TheVariants.{Held}
 use Rattle.sheets.proofs.Decimal.{digits_ours}
@@ -51,22 +45,22 @@ module _ (run ls row : List ℕ) (ok : list_ok_lem run ls ≡ true) where
   line_of_lem room (filled {d = d} rs fit a l x y z) = p.held_line fit.long fit.bands a x y (signed_ours d)
 
   -- a check with room for 128 records gives the answer
-  line_is : {r : Checked} → ChecksAlone run ls row r → line_of (answer_of r) ≡ checked_line codes row
+  line_is : {r : Result Checked Refusal} → ChecksAlone run ls row r → line_of (answer_of r) ≡ checked_line codes row
   line_is h =
-      let one : declared.Place = record { code = 0; way = Given 0 } in
+      let one = place_for 0 [] [] in
       let blank : List declared.Place = replicate 128 one in
       let long = length-replicate 128 one in
       check_line_only row [] codes (line_of_lem (omega (arith, length-map blank record_of_lem)) (h.checks blank (omega arith)).means)
 
-  pub check_written : {r x : Checked} {before after : List ℕ} {n : ℕ} → ChecksAlone run ls row r → r ≡ x
+  pub check_written : {r x : Result Checked Refusal} {before after : List ℕ} {n : ℕ} → ChecksAlone run ls row r → r ≡ x
       → (n ≡ length (line_of (answer_of x))) × (after ≡ over (line_of (answer_of x)) before)
       → WritesOver (checked_line codes row) before after n
   check_written {x = x} {before} {after} {n} p e w =
-      let f = ap (λ (c : Checked). line_of (answer_of c)) (sym e) ∙ line_is p in
+      let f = ap (λ (c : Result Checked Refusal). line_of (answer_of c)) (sym e) ∙ line_is p in
       subst (λ (t : List ℕ). WritesOver t before after n) f (writes_over w.0 w.1)
 
   -- the difference is handed on as the number that its 32 bits are
-  pub held_checked : {r : Checked} {before after : List ℕ} {n : ℕ} (d : ℤ) → SFits w32 d → ChecksAlone run ls row r → r ≡ Held d
+  pub held_checked : {r : Result Checked Refusal} {before after : List ℕ} {n : ℕ} (d : ℤ) → SFits w32 d → ChecksAlone run ls row r → r ≡ Ok (Held d)
       → (n ≡ length (held_line_lem (to_z w32 (of_z w32 d)))) × (after ≡ over (held_line_lem (to_z w32 (of_z w32 d))) before)
       → WritesOver (checked_line codes row) before after n
   held_checked {before = before} {after} {n} d f p e w =

@@ -118,6 +118,6 @@ all_demands =
       sheet_is_true = sheet_is_true;
       reads_back = λ names codes ribbon sheet x printed banded. reads_back x printed banded;
       at_most_twice = demand_3;
-      of_the_call = λ run ls before after bands saved p. demand_3_of_call p;
+      of_the_call = λ run ls before after laid p. demand_3_of_call p;
       any_ties = λ turn t cs ribbon saved l. lays_twice t l;
     }

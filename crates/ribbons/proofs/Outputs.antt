@@ -1,35 +1,30 @@
--- What a program writes is what is defined, for all three: a file that is read hands on a list that is fit, so the program
--- writes of that list; and a file that is refused is refused for itself, since the programs' own buffers suffice for any
--- list.
-use mathlib.Core.Path.{◌≡◌, sym, ap, subst, ◌∙◌}
-use mathlib.Core.Logic.{inl, inr}
-use mathlib.Core.Bool.{true}
-use mathlib.Core.List.{List, [], ◌∷◌}
-use Prim.Native.Nat.{ℕ, ◌*◌, ◌≤◌}
-use native.Mathlib.Omega.{arith}
+-- What a program reads and writes is what is defined, for all three: a file that is read hands on a list that is fit, so the
+-- program writes of that list; and a file that is refused is refused for itself, since the programs' own buffers suffice for
+-- any list.
+use Rattle.std.proofs.Common.{Result, Ok, Err, ◌≡◌, sym, ap, subst, ◌∙◌, inl, inr, true, List, [], ◌∷◌, ℕ, ◌*◌, ◌≤◌, arith, length, take, drop, length-append}
 use native.Mathlib.Nat.{mul-suc}
-use lib.ListN.{length, take, drop, length-append, length-map}
+use lib.ListN.{length-map}
 use lib.Seq.{take_at, length-take-le}
 use borrow.Author.Tests.{ne_eqb}
 use Rattle.words.specs.Lists.{Each}
 use Rattle.words.proofs.Lists.{each_map}
 use Rattle.words.proofs.Deciding.{holds}
 use Rattle.lists.specs.Refusals.{refusal}
-use Rattle.lists.specs.Answers.{refusal_of}
+use Rattle.lists.specs.Answers.{number_of, refusal_of}
+use Rattle.lists.specs.declared.numbers.Refusal.{Refusal}
 use Rattle.lists.specs.Runs.{codes_in, total, flat, lengths, over}
 use Rattle.lists.specs.Rules.{CodeRule, NameRule, FitList, FitNames}
 use Rattle.lists.specs.Fit.{list_ok_lem, names_ok_lem}
-use Rattle.lists.specs.declared.Refusal as declared
 use Rattle.lists.proofs.Runs.{total-lengths}
 use Rattle.lists.proofs.Rules.{is_fit_list, is_fit_names}
+use Rattle.lists.proofs.Table.{some_number}
 use Rattle.grammar.specs.Files as files
-use Rattle.grammar.specs.Grammar.{Reads}
 use Rattle.grammar.specs.Answers.{Lent, Short, result_of}
 use Rattle.grammar.specs.HandsOn.{HandedOn}
 use Rattle.grammar.proofs.Only.{reads_only}
+use Rattle.grammar.specs.Orders.{read_orders_lem}
 use Rattle.orders.specs.Calls.{Accepts, Refuses, in_file, in_buffers, Means, ReadsOrders}
-use Rattle.orders.specs.declared.Read.{Read}
-use Rattle.orders.specs.declared.Read.TheVariants.{Refused, Orders}
+use Rattle.orders.specs.declared.Orders.{Orders}
 use Rattle.orders.proofs.Calls.{handed}
 use Rattle.programs.specs.Programs.{refused_line_lem, written_for, of_list, WritesOver}
 
@@ -39,11 +34,6 @@ writes_over {text} {before} {after} {r} e f =
     let l : r ≤ length after =
     omega (arith, ap length f, length-append text (drop (length text) before)) in
     record { long = e; written = f; counts = (l, sym (length-take-le r after l)) }
-
--- the output for what a file is read as
-as_read : (written : files.Orders → List ℕ) {file : List ℕ} {x : files.Orders} → Reads file x
-    → of_list written file ≡ written_for written x
-as_read written r = ap (written_for written) (reads_only r)
 
 -- Any list fits into 8,192 bands, 128 lengths, 3,072 bytes of names and 128 sizes.
 sum_most : (cs : List (List ℕ)) (k : ℕ) → Each (λ (c : List ℕ). length c ≤ k) cs → total (lengths cs) ≤ k * length cs
@@ -88,7 +78,7 @@ module _ {ns cs : List (List ℕ)} (h : HandedOn ns cs) where
   room_suffices b k l m n (inr (inr (inr x))) = omega (arith, x, length-map ns length, names_fit.one_each, count_fits)
 
 -- A list that is read: codes and names are the beginnings of the four buffers, the later calls take them, and they are what
--- the program writes of.
+-- the file is read as.
 module _ {file : List ℕ} {b left : Lent} {codes bands names : ℕ} (p : Accepts file b left codes bands names) where
   h : HandedOn p.ns p.cs
   h = p.handed_on
@@ -122,8 +112,8 @@ module _ {file : List ℕ} {b left : Lent} {codes bands names : ℕ} (p : Accept
   pub list_fits : list_ok_lem (take bands left.code_run) (take codes left.code_lengths) ≡ true
   list_fits = rw (run_is, lengths_are) h.list_passes
 
-  pub names_fit_list : names_ok_lem (length (take codes left.code_lengths)) (take names left.name_run) (take codes left.name_lengths) ≡ true
-  names_fit_list = rw (lengths_are, name_run_is, sizes_are, length-map p.cs length) h.names_pass
+  pub names_fit_list : names_ok_lem codes (take names left.name_run) (take codes left.name_lengths) ≡ true
+  names_fit_list = rw (name_run_is, sizes_are, counts_are.0, length-map p.cs length) h.names_pass
 
   pub counts_fit : (bands ≤ 8192) × (codes ≤ 128) × (names ≤ 3072)
   counts_fit = (
@@ -132,43 +122,55 @@ module _ {file : List ℕ} {b left : Lent} {codes bands names : ℕ} (p : Accept
     omega (arith, counts_are.2, names_bytes_fit h),
   )
 
-  -- the orders as the program has them
-  abbrev pub orders_in : files.Orders
-  orders_in =
-      files.orders 0 0 (codes_in (take names left.name_run) (take codes left.name_lengths))
+  pub read_as : read_orders_lem file
+      ≡ files.orders 0 0 (codes_in (take names left.name_run) (take codes left.name_lengths))
       (codes_in (take bands left.code_run) (take codes left.code_lengths))
-
-  output_is : (written : files.Orders → List ℕ) → of_list written file ≡ written orders_in
-  output_is written =
-      let e : orders_in ≡ files.orders 0 0 p.ns p.cs =
-      rw (run_is, lengths_are, name_run_is, sizes_are, h.same_codes, h.same_names) in
-      as_read written p.due ∙ ap written (sym e)
+  read_as = rw (run_is, lengths_are, name_run_is, sizes_are, h.same_codes, h.same_names) (reads_only p.due)
 
 -- A file that is refused is refused for itself: the program's buffers suffice for any list.
+pub refused_as : {file : List ℕ} {b : Lent} {n row : ℕ} → 8192 ≤ length b.code_run → 128 ≤ length b.code_lengths
+    → 3072 ≤ length b.name_run → 128 ≤ length b.name_lengths → Refuses file b n row → read_orders_lem file ≡ files.bad n row
+refused_as k l m o (in_file x h) = reads_only x
+refused_as {b = b} k l m o (in_buffers x s) = absurd (room_suffices (handed x) b k l m o s)
+
 pub refused_output : (written : files.Orders → List ℕ) {file : List ℕ} {b : Lent} {n row : ℕ} → 8192 ≤ length b.code_run
     → 128 ≤ length b.code_lengths → 3072 ≤ length b.name_run → 128 ≤ length b.name_lengths → Refuses file b n row
     → of_list written file ≡ refused_line_lem (refusal n row)
 refused_output written {n = n} k l m o (in_file x h) =
-    let t = ne_eqb n 0 (omega arith) in
-    as_read written x ∙ rw (t, written_for)
+    let t = ne_eqb n 0 (λ z. omega (arith, h, z)) in
+    ap (written_for written) (reads_only x) ∙ rw (t, written_for)
 refused_output written {b = b} k l m o (in_buffers x s) = absurd (room_suffices (handed x) b k l m o s)
 
-pub accepted : (file : List ℕ) {b left : Lent} {r : Read} → ReadsOrders file b left r → {codes bands names : ℕ}
-    → r ≡ Orders codes bands names → Accepts file b left codes bands names
-accepted file {b} {left} p e = subst (Means file b left) e p.means
-
 -- The two cases of what a program writes.
-module _ (written : files.Orders → List ℕ) (file : List ℕ) {b left : Lent} {r : Read} (p : ReadsOrders file b left r) where
-  pub writes_of_list : {codes bands names : ℕ} (e : r ≡ Orders codes bands names) → {before after : List ℕ} {n : ℕ}
-      → WritesOver (written (orders_in (accepted file p e))) before after n → WritesOver (of_list written file) before after n
-  writes_of_list e {before} {after} {n} w =
-      subst (λ (t : List ℕ). WritesOver t before after n) (sym (output_is (accepted file p e) written)) w
+module _ (written : files.Orders → List ℕ) (file : List ℕ) {before after : List ℕ} {n : ℕ} where
+  pub writes_list : {ns cs : List (List ℕ)} → read_orders_lem file ≡ files.orders 0 0 ns cs
+      → WritesOver (written (files.orders 0 0 ns cs)) before after n → WritesOver (of_list written file) before after n
+  writes_list e w = subst (λ (o : files.Orders). WritesOver (written_for written o) before after n) (sym e) w
 
-  pub writes_refusal : {x : declared.Refusal} → r ≡ Refused x → 8192 ≤ length b.code_run → 128 ≤ length b.code_lengths
+  pub writes_refused : (r : Refusal) → read_orders_lem file ≡ files.bad (number_of r.fault) r.row
+      → (n ≡ length (refused_line_lem (refusal_of r))) × (after ≡ over (refused_line_lem (refusal_of r)) before)
+      → WritesOver (of_list written file) before after n
+  writes_refused r e w =
+      let t = ne_eqb (number_of r.fault) 0 (λ z. omega (arith, some_number r.fault, z)) in
+      subst (λ (o : files.Orders). WritesOver (written_for written o) before after n) (sym e)
+      (rw (t, written_for) (writes_over w.0 w.1))
+
+-- The same from the call's answer.
+module _ (written : files.Orders → List ℕ) (file : List ℕ) {b left : Lent} {r : Result Orders Refusal} (p : ReadsOrders file b left r) where
+  -- the orders as the program has them
+  abbrev pub orders_in : Orders → files.Orders
+  orders_in o =
+      files.orders 0 0 (codes_in (take o.names left.name_run) (take o.codes left.name_lengths))
+      (codes_in (take o.bands left.code_run) (take o.codes left.code_lengths))
+
+  pub writes_of_list : {o : Orders} → r ≡ Ok o → {before after : List ℕ} {n : ℕ}
+      → WritesOver (written (orders_in o)) before after n → WritesOver (of_list written file) before after n
+  writes_of_list e w = writes_list written file (read_as (subst (Means file b left) e p.means)) w
+
+  pub writes_refusal : {x : Refusal} → r ≡ Err x → 8192 ≤ length b.code_run → 128 ≤ length b.code_lengths
       → 3072 ≤ length b.name_run → 128 ≤ length b.name_lengths → {before after : List ℕ} {n : ℕ}
       → (n ≡ length (refused_line_lem (refusal_of x))) × (after ≡ over (refused_line_lem (refusal_of x)) before)
       → WritesOver (of_list written file) before after n
-  writes_refusal e k l m o {before} {after} {n} w =
+  writes_refusal {x} e k l m o w =
       let f = subst (Means file b left) e p.means in
-      subst (λ (t : List ℕ). WritesOver t before after n) (sym (refused_output written k l m o f.0))
-      (writes_over w.0 w.1)
+      writes_refused written file x (refused_as k l m o f.0) w

@@ -1,6 +1,6 @@
 -- What is demanded, of the rules, in three records: each definition meets the claim that pins it, nothing else does, and
 -- the three demands follow.
-use Rattle.std.specs.Prelude.{◌≡◌, Bool, true, List, ℕ, ◌+◌, ◌*◌, ◌≤◌, ◌<◌, ℤ, length}
+use Rattle.std.specs.Prelude.{◌≡◌, Bool, true, List, ℕ, ◌+◌, ◌*◌, ◌≤◌, ◌<◌, ℤ, length, Result, Ok}
 use Rattle.words.specs.Lists.{Each}
 use Rattle.words.specs.Turn.{turned, Turning, Turns}
 use Rattle.words.specs.Stand.{StandsSomeWay}
@@ -10,6 +10,7 @@ use Rattle.words.specs.Place.{Place, NoTie, Finds, place_of}
 use Rattle.words.specs.Count.{Counts, count_of}
 use Rattle.lists.specs.Runs.{codes_in, total, lengths, over}
 use Rattle.lists.specs.Rules.{Band, Printed, ChecksCodes, ChecksNames}
+use Rattle.lists.specs.declared.numbers.Refusal.{Refusal}
 use Rattle.lists.specs.Fit.{list_ok_lem, names_ok_lem}
 use Rattle.grammar.specs.Files.{Orders}
 use Rattle.grammar.specs.Grammar.{Meets}
@@ -28,12 +29,12 @@ use Rattle.greedy.specs.Layout.{ribbon_for, saved_by}
 use Rattle.greedy.specs.Answers.{LayOutcome, laid, LaysOut, lay_outcome}
 use Rattle.greedy.specs.Starred.{Starred}
 use Rattle.layout.specs.Calls.{LaysRibbon}
-use Rattle.layout.specs.declared.Laid.TheVariants.{Ribbon}
+use Rattle.layout.specs.declared.Laid.{Laid}
 use Rattle.sheets.specs.Sheet.{SheetFor}
 use Rattle.sheets.specs.Answers.{SheetOutcome, written, Sheets, sheet_for, sheet_outcome}
 use Rattle.sheets.specs.ReadBack.{ReadsBack}
 use Rattle.writer.specs.Calls.{WritesSheet}
-use Rattle.writer.specs.declared.Wrote.TheVariants.{Sheet}
+use Rattle.writer.specs.declared.Wrote.{Wrote}
 use Rattle.checking.specs.Check.{Misses, missing_on}
 use Rattle.checking.specs.Check as check
 use Rattle.checking.specs.Answers.{PlaceRecord, CheckOutcome, Fit, Checks, check_outcome}
@@ -124,20 +125,20 @@ Demand3 =
 -- The same of the call itself, whatever it does inside: all that is known is what lay_ribbon promises.
 abbrev pub Demand3OfCall : Type 0
 Demand3OfCall =
-    (run ls before after : List ℕ) (bands saved : ℕ) → LaysRibbon run ls before after (Ribbon bands saved)
+    (run ls before after : List ℕ) (laid : Laid) → LaysRibbon run ls before after (Ok laid)
     → (rival : List ℕ) → AllStand turned (codes_in run ls) rival
-    → total (lengths (kept turned (codes_in run ls))) ≤ length rival + 2 * saved
+    → total (lengths (kept turned (codes_in run ls))) ≤ length rival + 2 * laid.saved
 
 -- Demand 2 of the check itself: it answers held exactly when every code stands on a ribbon that is not refused, where there
 -- is room for the records.
 pub record PassesExactly : Type 0 where
   pub held_stands : (run ls row : List ℕ) (before after : List declared.Place) (d : ℤ)
-      → ChecksRibbon run ls row before after (Held d) → AllStand turned (codes_in run ls) row
+      → ChecksRibbon run ls row before after (Ok (Held d)) → AllStand turned (codes_in run ls) row
   pub missing_stands_not : (run ls row : List ℕ) (before after : List declared.Place) (k : ℕ)
-      → ChecksRibbon run ls row before after (Missing k) → AllStand turned (codes_in run ls) row → ⊥
-  pub stands_held : (run ls row : List ℕ) (before after : List declared.Place) (r : Checked) → Fit run ls row
+      → ChecksRibbon run ls row before after (Ok (Missing k)) → AllStand turned (codes_in run ls) row → ⊥
+  pub stands_held : (run ls row : List ℕ) (before after : List declared.Place) (r : Result Checked Refusal) → Fit run ls row
       → AllStand turned (codes_in run ls) row → length ls ≤ length before → ChecksRibbon run ls row before after r
-      → (d : ℤ) × (r ≡ Held d)
+      → (d : ℤ) × (r ≡ Ok (Held d))
 
 -- Demand 2 of the sheet itself, and demand 3 of the saved that comes with it: what is written is a sheet of the ribbon that
 -- is laid out by the rules, so that each place on it is true; read back, it gives the names and places of all codes.
@@ -153,9 +154,9 @@ pub record SheetIs (run ls name_run name_ls before after : List ℕ) (bytes save
 
 abbrev pub SheetIsTrue : Type 0
 SheetIsTrue =
-    (run ls name_run name_ls before after : List ℕ) (bytes saved : ℕ)
-    → WritesSheet run ls name_run name_ls before after (Sheet bytes saved)
-    → SheetIs run ls name_run name_ls before after bytes saved
+    (run ls name_run name_ls before after : List ℕ) (wrote : Wrote)
+    → WritesSheet run ls name_run name_ls before after (Ok wrote)
+    → SheetIs run ls name_run name_ls before after wrote.bytes wrote.saved
 
 pub record Demands : Type 0 where
   -- 1. Nothing unfit is accepted, and what is refused leaves lent memory untouched: `reading`, `laying`, `checking` and

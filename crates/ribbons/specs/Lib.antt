@@ -1,2 +1,3 @@
--- The demands, collected.
+-- The lists that programs read, and the demands, collected.
+pub mod OrderLists
 pub mod Demands

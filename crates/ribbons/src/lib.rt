@@ -2,11 +2,12 @@
 #![tactic(auto)]
 
 mod check_printing; // the check program's output
+mod order_list; // an order list as the programs have it
 mod ribbon_printing; // the ribbon program's
 mod sheet_printing; // the sheet program's
 
 // reading an order list
-pub use orders::{Read, read_orders};
+pub use orders::{Orders, read_orders};
 // laying out a ribbon
 pub use layout::{Laid, lay_ribbon};
 // checking a supplied ribbon
@@ -17,10 +18,7 @@ pub use verdicts::{Checked, Findings, check_only, check_places};
 // writing the sheet
 pub use writer::{Wrote, write_sheet};
 // refusals, which all of them give
-pub use lists::{
-    BAD_NAME, BROKEN_ROW, EMPTY_LIST, FALSE_LIST, LIST_FULL, LONG_CODE, LONG_FILE, LONG_RIBBON,
-    NAME_TAKEN, NO_BANDS, Refusal, SHORT_BUFFER, UNKNOWN_COLOUR, WRONG_HEADING, WRONG_WIDTH,
-};
+pub use lists::{Fault, Refusal};
 // sizes that always suffice
 pub use lists::{
     MOST_BANDS, MOST_CODES, MOST_FILE_BYTES, MOST_NAME_BYTES, MOST_SHEET_BYTES, MOST_SUPPLIED_BANDS,

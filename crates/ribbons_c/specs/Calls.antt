@@ -1,25 +1,26 @@
 -- What the calls for programs in C promise: each answers in plain data that stands for one answer of a call of `ribbons`, and
 -- this one keeps that call's contract, with all that it means, demand 3 too.
-use Rattle.std.specs.Prelude.{◌≡◌, true, false, List, ℕ, zero, suc, pos, length, take}
+use Rattle.std.specs.Prelude.{◌≡◌, true, false, List, [], ◌∷◌, ℕ, zero, suc, ◌-◌, pos, length, take, slice_index_or, Result, Ok, Err}
 use Rattle.words.specs.Tests.{pick}
+use Rattle.lists.specs.Answers.{number_of}
+use Rattle.lists.specs.declared.numbers.Fault.{Fault}
+use Rattle.lists.specs.declared.numbers.Fault.TheVariants as fault
+use Rattle.lists.specs.declared.numbers.Refusal.{Refusal}
 use Rattle.grammar.specs.Answers.{Lent}
 use Rattle.grammar.specs.RibbonFile.{RibbonFile, ribbon_of_lem}
 use Rattle.orders.specs.Calls.{ReadsOrders}
-use Rattle.orders.specs.declared.Read.{Read}
-use Rattle.orders.specs.declared.Read.TheVariants as read
+use Rattle.orders.specs.declared.Orders.{Orders}
 use Rattle.layout.specs.Calls.{LaysRibbon}
 use Rattle.layout.specs.declared.Laid.{Laid}
-use Rattle.layout.specs.declared.Laid.TheVariants as lay
 use Rattle.verdicts.specs.Calls.{ChecksAlone}
 use Rattle.verdicts.specs.declared.Checked.{Checked}
-use Rattle.verdicts.specs.declared.Checked.TheVariants as check
+use Rattle.verdicts.specs.declared.Checked.TheVariants.{Missing, Held}
 use Rattle.writer.specs.Calls.{WritesSheet}
 use Rattle.writer.specs.declared.Wrote.{Wrote}
-use Rattle.writer.specs.declared.Wrote.TheVariants as write
-use Rattle.ribbons_c.specs.declared.RibbonsOrders.{RibbonsOrders}
-use Rattle.ribbons_c.specs.declared.RibbonsLaid.{RibbonsLaid}
-use Rattle.ribbons_c.specs.declared.RibbonsChecked.{RibbonsChecked}
-use Rattle.ribbons_c.specs.declared.RibbonsSheet.{RibbonsSheet}
+use Rattle.ribbons_c.specs.declared.plain.RibbonsOrders.{RibbonsOrders}
+use Rattle.ribbons_c.specs.declared.plain.RibbonsLaid.{RibbonsLaid}
+use Rattle.ribbons_c.specs.declared.plain.RibbonsChecked.{RibbonsChecked}
+use Rattle.ribbons_c.specs.declared.plain.RibbonsSheet.{RibbonsSheet}
 
 -- A plain answer r of a call whose contract is meets: the answer that r is read as keeps the contract, and r is its plain
 -- form, so that nothing else stands in it.
@@ -32,53 +33,62 @@ abbrev pub answer_by_number : {A : Type 0} → ℕ → A → A → A
 answer_by_number zero given refused = given
 answer_by_number (suc n) given refused = refused
 
--- Reading an order list. What does not apply is 0, here and below.
-abbrev pub plain_read : Read → RibbonsOrders
-plain_read (read.Refused r) = record { refused = r.number; row = r.row; codes = 0; bands = 0; names = 0 }
-plain_read (read.Orders codes bands names) = record { refused = 0; row = 0; codes = codes; bands = bands; names = names }
+-- The word of a number. One that has no word, as 14, is read as the last one, whose number is another.
+abbrev pub first_words : List Fault
+first_words =
+    fault.LongFile ∷ fault.BrokenRow ∷ fault.WrongWidth ∷ fault.WrongHeading ∷ fault.BadName ∷ fault.NoBands ∷ fault.LongCode
+    ∷ fault.UnknownColour ∷ fault.NameTaken ∷ fault.ListFull ∷ fault.EmptyList ∷ fault.FalseList ∷ fault.ShortBuffer ∷ []
 
-abbrev pub read_of : RibbonsOrders → Read
+abbrev pub word_of : ℕ → Fault
+word_of n = slice_index_or first_words (n - 1) fault.LongRibbon
+
+abbrev pub refusal_by : ℕ → ℕ → Refusal
+refusal_by number row = record { fault = word_of number; row = row }
+
+-- Reading an order list. What does not apply is 0, here and below.
+abbrev pub plain_read : Result Orders Refusal → RibbonsOrders
+plain_read (Ok o) = record { refused = 0; row = 0; codes = o.codes; bands = o.bands; names = o.names }
+plain_read (Err r) = record { refused = number_of r.fault; row = r.row; codes = 0; bands = 0; names = 0 }
+
+abbrev pub read_of : RibbonsOrders → Result Orders Refusal
 read_of r =
-    answer_by_number r.refused (read.Orders r.codes r.bands r.names)
-    (read.Refused (record { number = r.refused; row = r.row }))
+    answer_by_number r.refused (Ok (record { codes = r.codes; bands = r.bands; names = r.names }))
+    (Err (refusal_by r.refused r.row))
 
 abbrev pub TellsOrders : (file : List ℕ) (before left : Lent) → RibbonsOrders → Type 0
 TellsOrders file before left = Tells (ReadsOrders file before left) plain_read read_of
 
 -- Laying out a ribbon. Its refusals have row 0, here and below.
-abbrev pub plain_laid : Laid → RibbonsLaid
-plain_laid (lay.Refused r) = record { refused = r.number; bands = 0; saved = 0 }
-plain_laid (lay.Ribbon bands saved) = record { refused = 0; bands = bands; saved = saved }
+abbrev pub plain_laid : Result Laid Refusal → RibbonsLaid
+plain_laid (Ok l) = record { refused = 0; bands = l.bands; saved = l.saved }
+plain_laid (Err r) = record { refused = number_of r.fault; bands = 0; saved = 0 }
 
-abbrev pub laid_of : RibbonsLaid → Laid
-laid_of r =
-    answer_by_number r.refused (lay.Ribbon r.bands r.saved) (lay.Refused (record { number = r.refused; row = 0 }))
+abbrev pub laid_of : RibbonsLaid → Result Laid Refusal
+laid_of r = answer_by_number r.refused (Ok (record { bands = r.bands; saved = r.saved })) (Err (refusal_by r.refused 0))
 
 abbrev pub TellsLaid : (run ls before after : List ℕ) → RibbonsLaid → Type 0
 TellsLaid run ls before after = Tells (LaysRibbon run ls before after) plain_laid laid_of
 
 -- Checking a ribbon without records.
-abbrev pub plain_checked : Checked → RibbonsChecked
-plain_checked (check.Refused r) = record { refused = r.number; held = false; missing = 0; difference = pos 0 }
-plain_checked (check.Missing k) = record { refused = 0; held = false; missing = k; difference = pos 0 }
-plain_checked (check.Held d) = record { refused = 0; held = true; missing = 0; difference = d }
+abbrev pub plain_checked : Result Checked Refusal → RibbonsChecked
+plain_checked (Ok (Missing k)) = record { refused = 0; held = false; missing = k; difference = pos 0 }
+plain_checked (Ok (Held d)) = record { refused = 0; held = true; missing = 0; difference = d }
+plain_checked (Err r) = record { refused = number_of r.fault; held = false; missing = 0; difference = pos 0 }
 
-abbrev pub checked_of : RibbonsChecked → Checked
+abbrev pub checked_of : RibbonsChecked → Result Checked Refusal
 checked_of r =
-    answer_by_number r.refused (pick r.held (check.Held r.difference) (check.Missing r.missing))
-    (check.Refused (record { number = r.refused; row = 0 }))
+    answer_by_number r.refused (Ok (pick r.held (Held r.difference) (Missing r.missing))) (Err (refusal_by r.refused 0))
 
 abbrev pub TellsChecked : (run ls row : List ℕ) → RibbonsChecked → Type 0
 TellsChecked run ls row = Tells (ChecksAlone run ls row) plain_checked checked_of
 
 -- Writing the sheet.
-abbrev pub plain_wrote : Wrote → RibbonsSheet
-plain_wrote (write.Refused r) = record { refused = r.number; bytes = 0; saved = 0 }
-plain_wrote (write.Sheet bytes saved) = record { refused = 0; bytes = bytes; saved = saved }
+abbrev pub plain_wrote : Result Wrote Refusal → RibbonsSheet
+plain_wrote (Ok w) = record { refused = 0; bytes = w.bytes; saved = w.saved }
+plain_wrote (Err r) = record { refused = number_of r.fault; bytes = 0; saved = 0 }
 
-abbrev pub wrote_of : RibbonsSheet → Wrote
-wrote_of r =
-    answer_by_number r.refused (write.Sheet r.bytes r.saved) (write.Refused (record { number = r.refused; row = 0 }))
+abbrev pub wrote_of : RibbonsSheet → Result Wrote Refusal
+wrote_of r = answer_by_number r.refused (Ok (record { bytes = r.bytes; saved = r.saved })) (Err (refusal_by r.refused 0))
 
 abbrev pub TellsSheet : (run ls name_run name_ls before after : List ℕ) → RibbonsSheet → Type 0
 TellsSheet run ls name_run name_ls before after =

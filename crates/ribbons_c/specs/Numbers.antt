@@ -4,10 +4,10 @@ use Rattle.words.specs.Lists.{In}
 use Rattle.grammar.specs.Answers.{Lent}
 use Rattle.numbers.specs.Numbers.{numbers_of, read_orders, lay_ribbon, check_only, write_sheet}
 use Rattle.ribbons_c.specs.Calls.{TellsOrders, TellsLaid, TellsChecked, TellsSheet}
-use Rattle.ribbons_c.specs.declared.RibbonsOrders.{RibbonsOrders}
-use Rattle.ribbons_c.specs.declared.RibbonsLaid.{RibbonsLaid}
-use Rattle.ribbons_c.specs.declared.RibbonsChecked.{RibbonsChecked}
-use Rattle.ribbons_c.specs.declared.RibbonsSheet.{RibbonsSheet}
+use Rattle.ribbons_c.specs.declared.plain.RibbonsOrders.{RibbonsOrders}
+use Rattle.ribbons_c.specs.declared.plain.RibbonsLaid.{RibbonsLaid}
+use Rattle.ribbons_c.specs.declared.plain.RibbonsChecked.{RibbonsChecked}
+use Rattle.ribbons_c.specs.declared.plain.RibbonsSheet.{RibbonsSheet}
 
 pub record PlainNumbers : Type 0 where
   pub orders : (file : List ℕ) (before left : Lent) (r : RibbonsOrders) → TellsOrders file before left r → 0 < r.refused

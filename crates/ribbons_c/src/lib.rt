@@ -5,46 +5,9 @@
 ghost use Rattle.grammar.specs.Answers.{lent};
 ghost use Rattle.ribbons_c.specs.Calls.{TellsOrders, TellsLaid, TellsChecked, TellsSheet, TellsRibbon};
 
-use ribbons::{Checked, Laid, Read, Wrote};
+mod plain; // the answers
 
-// The refusal's row; how many codes there are, how many bands in them, and how many bytes of names.
-#[repr(C)]
-#[derive(Clone, Copy)]
-pub struct RibbonsOrders {
-    pub refused: u8,
-    pub row: u32,
-    pub codes: u32,
-    pub bands: u32,
-    pub names: u32,
-}
-
-// The ribbon's length and the bands saved.
-#[repr(C)]
-#[derive(Clone, Copy)]
-pub struct RibbonsLaid {
-    pub refused: u8,
-    pub bands: u32,
-    pub saved: u32,
-}
-
-// Whether the ribbon holds every code; if not, the number of the first that is missing; if so, the difference.
-#[repr(C)]
-#[derive(Clone, Copy)]
-pub struct RibbonsChecked {
-    pub refused: u8,
-    pub held: bool,
-    pub missing: u32,
-    pub difference: i32,
-}
-
-// The sheet's length and the bands that its ribbon saves.
-#[repr(C)]
-#[derive(Clone, Copy)]
-pub struct RibbonsSheet {
-    pub refused: u8,
-    pub bytes: u32,
-    pub saved: u32,
-}
+pub use plain::{RibbonsChecked, RibbonsLaid, RibbonsOrders, RibbonsSheet};
 
 // Reads an order list into four lent buffers, as read_orders does.
 #[unsafe(no_mangle)]
@@ -57,26 +20,7 @@ pub extern "C" fn ribbons_read_orders(
 ) -> RibbonsOrders
     ensures { TellsOrders file.now (lent bands.old lengths.old names.old sizes.old) (lent bands.new lengths.new names.new sizes.new) result }
 {
-    match ribbons::read_orders(file, bands, lengths, names, sizes) {
-        Read::Refused(fault) => RibbonsOrders {
-            refused: fault.number,
-            row: fault.row,
-            codes: 0,
-            bands: 0,
-            names: 0,
-        },
-        Read::Orders {
-            codes,
-            bands: in_codes,
-            names: in_names,
-        } => RibbonsOrders {
-            refused: 0,
-            row: 0,
-            codes: codes,
-            bands: in_codes,
-            names: in_names,
-        },
-    }
+    ribbons::read_orders(file, bands, lengths, names, sizes).into()
 }
 
 // Lays out a list of codes into a lent ribbon, as lay_ribbon does.
@@ -88,18 +32,7 @@ pub extern "C" fn ribbons_lay_ribbon(
 ) -> RibbonsLaid
     ensures { TellsLaid bands.now lengths.now ribbon.old ribbon.new result }
 {
-    match ribbons::lay_ribbon(bands, lengths, ribbon) {
-        Laid::Refused(r) => RibbonsLaid {
-            refused: r.number,
-            bands: 0,
-            saved: 0,
-        },
-        Laid::Ribbon { bands: long, saved } => RibbonsLaid {
-            refused: 0,
-            bands: long,
-            saved: saved,
-        },
-    }
+    ribbons::lay_ribbon(bands, lengths, ribbon).into()
 }
 
 // Checks a supplied ribbon, as check_only does.
@@ -111,26 +44,7 @@ pub extern "C" fn ribbons_check_ribbon(
 ) -> RibbonsChecked
     ensures { TellsChecked bands.now lengths.now ribbon.now result }
 {
-    match ribbons::check_only(bands, lengths, ribbon) {
-        Checked::Refused(r) => RibbonsChecked {
-            refused: r.number,
-            held: false,
-            missing: 0,
-            difference: 0,
-        },
-        Checked::Missing(k) => RibbonsChecked {
-            refused: 0,
-            held: false,
-            missing: k,
-            difference: 0,
-        },
-        Checked::Held(d) => RibbonsChecked {
-            refused: 0,
-            held: true,
-            missing: 0,
-            difference: d,
-        },
-    }
+    ribbons::check_only(bands, lengths, ribbon).into()
 }
 
 // Writes the sheet of a list with names into a lent buffer, as write_sheet does.
@@ -144,18 +58,7 @@ pub extern "C" fn ribbons_write_sheet(
 ) -> RibbonsSheet
     ensures { TellsSheet bands.now lengths.now names.now sizes.now out.old out.new result }
 {
-    match ribbons::write_sheet(bands, lengths, names, sizes, out) {
-        Wrote::Refused(r) => RibbonsSheet {
-            refused: r.number,
-            bytes: 0,
-            saved: 0,
-        },
-        Wrote::Sheet { bytes, saved } => RibbonsSheet {
-            refused: 0,
-            bytes: bytes,
-            saved: saved,
-        },
-    }
+    ribbons::write_sheet(bands, lengths, names, sizes, out).into()
 }
 
 // How many bytes at the front of a ribbon file are its ribbon, the part that ribbon_of gives.

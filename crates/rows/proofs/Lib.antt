@@ -1,4 +1,2 @@
--- What each byte does, and what holds while a row is read; the ribbon of a ribbon file by its last two bytes.
-pub mod Taken
+-- What holds while a row is read.
 pub mod Scanning
-pub mod RibbonEnd

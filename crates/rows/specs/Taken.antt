@@ -1,5 +1,5 @@
--- What one byte does to the scan of a row, as the code names it, and what is kept of it in a buffer.
-use Rattle.std.specs.Prelude.{◌≡◌, ◌≢◌, Bool, true, false, List, [], ◌∷◌, ℕ, ◌+◌, get_or, drop, set}
+-- What one byte does to the scan of a row, as the code names it.
+use Rattle.std.specs.Prelude.{◌≡◌, true, List, [], ◌∷◌, ℕ, drop, slice_get, Option, Some}
 use Rattle.grammar.specs.Files.{lf, add}
 use Rattle.grammar.specs.Rows.{Row, row, broken, at_start, in_text, after_quote, outside, inside, row_from}
 use Rattle.grammar.specs.Rows as rows
@@ -14,11 +14,6 @@ mode_of Text = outside in_text
 mode_of AfterQuote = outside after_quote
 mode_of Inside = inside
 
--- the file may end in this mode
-abbrev pub is_closed : rows.Mode → Bool
-is_closed (outside o) = true
-is_closed inside = false
-
 -- the row, where the byte b after the fields fs and the content c does this, and s comes after it
 abbrev pub row_after : Step → List (List ℕ) → List ℕ → ℕ → List ℕ → Row
 row_after Broken fs c b s = broken
@@ -27,12 +22,7 @@ row_after Ends fs c b s = row true (add fs c) (drop 1 s)
 row_after (Keep m) fs c b s = row_from (mode_of m) fs (add c b) s
 row_after (Skip m) fs c b s = row_from (mode_of m) fs c s
 
--- what the byte b does where next comes after it, 0 where the file ends
-pub record Takes (m : rows.Mode) (b next : ℕ) (r : Step) : Type 0 where
-  pub scans : (fs : List (List ℕ)) (c s : List ℕ) → get_or s 0 0 ≡ next → row_from m fs c (b ∷ s) ≡ row_after r fs c b s
-  pub before_lf : r ≡ Ends → next ≡ lf
-
--- a byte of field n, appended to what the buffer of field k has behind a mark if k is n
-pub record Appends (k n : ℕ) (buffer buffer' : List ℕ) (mark size b r : ℕ) : Type 0 where
-  pub own : k ≡ n → (buffer' ≡ set buffer (mark + size) b) × (r ≡ size + 1)
-  pub other : k ≢ n → (buffer' ≡ buffer) × (r ≡ size)
+-- what the byte b does where next comes after it, none where the file ends
+pub record Takes (m : rows.Mode) (b : ℕ) (next : Option ℕ) (r : Step) : Type 0 where
+  pub scans : (fs : List (List ℕ)) (c s : List ℕ) → slice_get s 0 ≡ next → row_from m fs c (b ∷ s) ≡ row_after r fs c b s
+  pub before_lf : r ≡ Ends → next ≡ Some lf

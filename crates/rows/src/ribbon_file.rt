@@ -6,15 +6,5 @@ ghost use Rattle.grammar.specs.RibbonFile.{ribbon_of_lem};
 pub fn ribbon_of<'a>(file: &'a [u8]) -> &'a [u8]
     ensures { result.now ≡ ribbon_of_lem file.now }
 {
-    if file.len() < 2 {
-        return file;
-    }
-    let n = file.len() - 2;
-    if file[n] != 13 {
-        return file;
-    }
-    if file[n + 1] != 10 {
-        return file;
-    }
-    &file[..n]
+    file.strip_suffix(b"\r\n").unwrap_or(file)
 }

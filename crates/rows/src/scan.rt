@@ -1,19 +1,17 @@
 // The scan of one row of an RFC 4180 file, byte by byte.
-ghost use Rattle.std.specs.Prelude.{◌≡◌, ◌≢◌, ℕ, ◌+◌, ◌-◌, ◌≤◌, ◌<◌, length, get_or};
+ghost use Rattle.std.specs.Prelude.{◌≡◌, ◌≢◌, ℕ, ◌+◌, ◌≤◌, ◌<◌, length, slice_set, Option};
 ghost use Rattle.grammar.specs.Files.{quote};
 ghost use Rattle.grammar.specs.Rows.{Outside, takes_text, outside, inside};
-ghost use Rattle.rows.specs.Scans.{ReadsRow, row_read_lem};
-ghost use Rattle.rows.specs.Taken.{mode_of, is_closed, Takes, Appends};
+ghost use Rattle.rows.specs.Scans.{ReadsRow};
+ghost use Rattle.rows.specs.Taken.{mode_of, Takes};
 
-// A row as read: whether it keeps the grammar, how many fields it has, the lengths of the contents of the first two, and
-// where the next row begins.
+// A row as read: how many fields it has, the lengths of the contents of the first two, and how many bytes it takes up.
 #[derive(Clone, Copy)]
 pub struct RowRead {
-    pub good: bool,
     pub fields: usize,
     pub name: usize,
     pub code: usize,
-    pub next: usize,
+    pub size: usize,
 }
 
 // Where the scan stands: a field begins, in an unquoted one, after a closing quote, or inside quotes.
@@ -38,137 +36,91 @@ enum Step {
 
 // Inside quotes.
 fn take_inside(b: u8) -> Step
-    ensures { (n : ℕ) → Takes inside b n result }
+    ensures { (n : Option ℕ) → Takes inside b n result }
 {
     match b {
-        34 => Step::Skip(Mode::AfterQuote),
-        10 | 13 | 32..=126 => Step::Keep(Mode::Inside),
+        b'"' => Step::Skip(Mode::AfterQuote),
+        b'\n' | b'\r' | b' '..=b'~' => Step::Keep(Mode::Inside),
         _ => Step::Broken,
     }
 }
 
 // Outside quotes, a quote apart; text says whether unquoted text may stand here.
-fn take_outside(text: bool, b: u8, next: u8) -> Step
+fn take_outside(text: bool, b: u8, next: Option<u8>) -> Step
     requires { b ≢ quote }
     ensures { (o : Outside) → takes_text o ≡ text → Takes (outside o) b next result }
 {
     match b {
-        44 => Step::Comma,
-        13 => if next == 10 { Step::Ends } else { Step::Broken },
-        32..=126 => if text {
-            Step::Keep(Mode::Text)
-        } else {
-            Step::Broken
-        },
+        b',' => Step::Comma,
+        b'\r' if next == Some(b'\n') => Step::Ends,
+        b' '..=b'~' if text => Step::Keep(Mode::Text),
         _ => Step::Broken,
     }
 }
 
-// What the byte b does, where next comes after it (0 at the end of the file).
-fn take_byte(mode: Mode, b: u8, next: u8) -> Step
+// What the byte b does, where next comes after it (none at the end of the file).
+fn take_byte(mode: Mode, b: u8, next: Option<u8>) -> Step
     ensures { Takes (mode_of mode) b next result }
 {
-    match mode {
-        Mode::Inside => take_inside(b),
-        Mode::Start => if b == 34 {
-            Step::Skip(Mode::Inside)
-        } else {
-            take_outside(true, b, next)
-        },
-        Mode::Text => if b == 34 {
-            Step::Broken
-        } else {
-            take_outside(true, b, next)
-        },
-        Mode::AfterQuote => if b == 34 {
-            Step::Keep(Mode::Inside)
-        } else {
-            take_outside(false, b, next)
-        },
+    match (mode, b) {
+        (Mode::Inside, _) => take_inside(b),
+        (Mode::Start, b'"') => Step::Skip(Mode::Inside),
+        (Mode::Text, b'"') => Step::Broken,
+        (Mode::AfterQuote, b'"') => Step::Keep(Mode::Inside),
+        (Mode::Start | Mode::Text, _) => take_outside(true, b, next),
+        (Mode::AfterQuote, _) => take_outside(false, b, next),
     }
 }
 
-// A byte of the file, 0 past its end.
-fn byte_at(file: &[u8], i: usize) -> u8
-    ensures { result ≡ get_or file.now i 0 }
-{
-    if i < file.len() {
-        return file[i];
-    }
-    0
-}
-
-// A byte of field n goes behind what the buffer of field k has of it, if it is that field's; and how much it has then.
-fn append(buffer: &mut [u8], mark: usize, size: usize, k: usize, n: usize, b: u8) -> usize
-    requires { mark + size < length buffer.old }
-    ensures { Appends k n buffer.old buffer.new mark size b result }
-{
-    if k == n {
-        buffer[mark + size] = b;
-        return size + 1;
-    }
-    size
-}
-
-// The file may end here.
-fn closed(mode: Mode) -> bool
-    ensures { result ≡ is_closed (mode_of mode) }
-{
-    match mode {
-        Mode::Inside => false,
-        Mode::Start => true,
-        Mode::Text => true,
-        Mode::AfterQuote => true,
-    }
-}
-
-fn row_read(good: bool, fields: usize, name: usize, code: usize, next: usize) -> RowRead
-    ensures { result ≡ row_read_lem good fields name code next }
-{
-    RowRead {
-        good,
-        fields,
-        name,
-        code,
-        next,
-    }
-}
-
-// The row that begins at a place of a file: the contents of its first two fields go behind a mark in each buffer.
-pub fn read_row(
-    file: &[u8],
-    at: usize,
-    names: &mut [u8],
-    nmark: usize,
-    bands: &mut [u8],
-    bmark: usize,
-) -> RowRead
-    requires { (at ≤ length file.now) × (nmark + (length file.now - at) ≤ length names.old) × (bmark + (length file.now - at) ≤ length bands.old) }
-    ensures { ReadsRow file.now at names.old names.new nmark bands.old bands.new bmark result }
+// The row that begins here, or none where it breaks the grammar: the contents of its first two fields go to the
+// beginnings of the buffers. Two buffers and no struct of them: one that holds a `&mut` needs a clause more in each function
+// that it is lent to, that the reference stays the same.
+pub fn read_row(here: &[u8], names: &mut [u8], bands: &mut [u8]) -> Option<RowRead>
+    requires { (length here.now ≤ length names.old) × (length here.now ≤ length bands.old) }
+    ensures { ReadsRow here.now names.new bands.new result }
 {
     let mut mode = Mode::Start;
-    let mut i = at;
-    let mut fields: usize = 0;
-    let mut name: usize = 0;
-    let mut code: usize = 0;
-    while i < file.len() {
-        let b = file[i];
-        i += 1;
-        let step = take_byte(mode, b, byte_at(file, i));
-        match step {
+    let mut row = RowRead {
+        fields: 1,
+        name: 0,
+        code: 0,
+        size: 0,
+    };
+    for (i, &b) in here.iter().enumerate() {
+        row.size = i + 1;
+        match take_byte(mode, b, here.get(i + 1).copied()) {
             Step::Comma => {
-                fields += 1;
+                row.fields += 1;
                 mode = Mode::Start;
             }
             Step::Keep(m) => {
-                name = append(names, nmark, name, 0, fields, b);
-                code = append(bands, bmark, code, 1, fields, b);
+                match row.fields {
+                    1 => row.name = keep(names, row.name, b),
+                    2 => row.code = keep(bands, row.code, b),
+                    _ => {}
+                }
                 mode = m;
             }
             Step::Skip(m) => mode = m,
-            Step::Ends => return row_read(true, fields + 1, name, code, i + 1),
-            Step::Broken => return row_read(false, 0, 0, 0, 0),
+            Step::Ends => {
+                row.size += 1;
+                return Some(row);
+            }
+            Step::Broken => return None,
         }
     }
-    row_read(closed(mode), fields + 1, name, code, i)
+    if matches!(mode, Mode::Inside) {
+        return None;
+    }
+    Some(row)
+}
+
+// A byte behind the first n of a buffer, and how many there are then: there is no heap to push to.
+fn keep(buffer: &mut [u8], n: usize, b: u8) -> usize
+    requires { n < length buffer.old }
+    ensures put { buffer.new ≡ slice_set buffer.old n b }
+    ensures more { result ≡ n + 1 }
+{
+    buffer[n] = b;
+    n + 1
 }

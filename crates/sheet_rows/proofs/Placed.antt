@@ -21,7 +21,7 @@ use Rattle.sheets.specs.Sheet.{row_text, sheet_heading, place_fields, code_row, 
 use Rattle.sheets.specs.Answers.{sheet_for}
 use Rattle.sheet_rows.specs.Shows.{nth_shown, ShowsCode, ShowsCodes}
 use Rattle.sheet_rows.specs.Placed.{placed_row, placed_rows, placed_sheet, RowsThere}
-use Rattle.sheet_rows.specs.declared.Shown.{Shown}
+use Rattle.sheet_rows.specs.declared.pieces.Shown.{Shown}
 use Rattle.sheet_rows.proofs.Shows.{lies, code_long}
 
 -- Row after row.

@@ -20,30 +20,30 @@ use Rattle.lists.specs.Rules.{FitList}
 use Rattle.lists.proofs.Runs.{total_more}
 use Rattle.greedy.specs.Dropping.{code_at}
 use Rattle.places.specs.Calls.{way_at}
-use Rattle.places.specs.declared.Way.{Way}
-use Rattle.places.specs.declared.Way.TheVariants.{Given, Turned, Either}
+use Rattle.finding.specs.declared.Way.{Way}
+use Rattle.finding.specs.declared.Way.TheVariants.{Given, Turned, Either}
 use Rattle.places.proofs.Finding.{next_in, next_is}
 use Rattle.sheet_rows.specs.Shows.{unset, nth_shown, ShowsCode, ShowsCodes}
 use Rattle.sheet_rows.specs.Placed.{start_of}
-use Rattle.sheet_rows.specs.declared.Shown.{Shown}
+use Rattle.sheet_rows.specs.declared.pieces.Shown.{Shown}
 
 module _ (c ribbon : List ℕ) where
   -- no more starts than bands
   pub count_few : 1 ≤ length c → (k : ℕ) → count_of turned c (drop k ribbon) ≤ length ribbon
   count_few h k = omega (arith, count_most (turning.as_long c) h (counts_ours turned c (drop k ribbon)), length-drop k ribbon)
 
-  lies_on : (w : Way) → IsPlace turned 0 c ribbon (way_at w) → start_of w + length c ≤ length ribbon
+  lies_on : (w : Way ℕ) → IsPlace turned 0 c ribbon (way_at w) → start_of w + length c ≤ length ribbon
   lies_on (Given i) (is_given l d h n) = omega (arith, h.start, stands_length h.stands)
   lies_on (Turned i) (is_turned l d h n) = omega (arith, h.start, stands_length h.stands, turning.as_long c)
   lies_on (Either i) (is_either l a h n) = omega (arith, h.start, stands_length h.stands)
 
-  all_behind : (w : Way) → IsPlace turned 0 c ribbon (way_at w)
+  all_behind : (w : Way ℕ) → IsPlace turned 0 c ribbon (way_at w)
       → count_of turned c ribbon ≡ count_of turned c (drop (start_of w) ribbon)
   all_behind (Given i) (is_given l d h n) = count_behind turned c ribbon i (start_within h) (λ j m. n j (omega arith) m)
   all_behind (Turned i) (is_turned l d h n) = count_behind turned c ribbon i (start_within h) (λ j m. n j (omega arith) m)
   all_behind (Either i) (is_either l a h n) = count_behind turned c ribbon i (start_within h) (λ j m. n j (omega arith) m)
 
-  module _ (w : Way) (e : way_at w ≡ place_of turned 0 c ribbon) where
+  module _ (w : Way ℕ) (e : way_at w ≡ place_of turned 0 c ribbon) where
     is_place : IsPlace turned 0 c ribbon (way_at w)
     is_place = subst (IsPlace turned 0 c ribbon) (sym e) (finds_ours turned 0 c ribbon)
 

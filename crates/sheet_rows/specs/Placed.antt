@@ -6,12 +6,12 @@ use Rattle.greedy.specs.Dropping.{code_at}
 use Rattle.grammar.specs.Files.{comma, line_break}
 use Rattle.grammar.specs.Quoting.{field_text}
 use Rattle.places.specs.Calls.{way_at}
-use Rattle.places.specs.declared.Way.{Way}
-use Rattle.places.specs.declared.Way.TheVariants.{Given, Turned, Either}
+use Rattle.finding.specs.declared.Way.{Way}
+use Rattle.finding.specs.declared.Way.TheVariants.{Given, Turned, Either}
 use Rattle.sheets.specs.Decimal.{decimal}
 use Rattle.sheets.specs.Sheet.{row_text, sheet_heading, place_fields}
 use Rattle.sheet_rows.specs.Shows.{nth_shown}
-use Rattle.sheet_rows.specs.declared.Shown.{Shown}
+use Rattle.sheet_rows.specs.declared.pieces.Shown.{Shown}
 
 -- the row of a name and of a code of so many bands, by what is shown of it
 abbrev pub placed_row : List ℕ → ℕ → Shown → List ℕ → List ℕ
@@ -27,7 +27,7 @@ abbrev pub placed_sheet : List (List ℕ) → List ℕ → List Shown → List �
 placed_sheet names ls ss ribbon = row_text sheet_heading ++ placed_rows names ls ss ribbon
 
 -- a way between its two commas
-abbrev pub way_text : Way → List ℕ
+abbrev pub way_text : Way ℕ → List ℕ
 way_text (Given i) = text ",given,"
 way_text (Turned i) = text ",turned,"
 way_text (Either i) = text ",either,"
@@ -37,7 +37,7 @@ abbrev pub places_text : ℕ → List ℕ
 places_text k = comma ∷ (decimal k ++ line_break)
 
 -- the start of a place
-abbrev pub start_of : Way → ℕ
+abbrev pub start_of : Way ℕ → ℕ
 start_of (Given i) = i
 start_of (Turned i) = i
 start_of (Either i) = i

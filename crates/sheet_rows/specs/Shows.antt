@@ -6,9 +6,9 @@ use Rattle.words.specs.Count.{count_of}
 use Rattle.lists.specs.Runs.{codes_in}
 use Rattle.greedy.specs.Dropping.{code_at}
 use Rattle.places.specs.Calls.{way_at}
-use Rattle.places.specs.declared.Way.{Way}
-use Rattle.places.specs.declared.Way.TheVariants.{Given}
-use Rattle.sheet_rows.specs.declared.Shown.{Shown}
+use Rattle.finding.specs.declared.Way.{Way}
+use Rattle.finding.specs.declared.Way.TheVariants.{Given}
+use Rattle.sheet_rows.specs.declared.pieces.Shown.{Shown}
 
 -- what stands in a row where nothing is shown yet
 abbrev pub unset : Shown
@@ -28,7 +28,7 @@ pub record ShowsCodes (run ls ribbon : List ℕ) (all : List Shown) : Type 0 whe
   pub each : (i : ℕ) → i < length ls → ShowsCode (code_at (codes_in run ls) i) ribbon (nth_shown all i)
 
 -- what is handed on of a code: a part of the run, of 1 to 64 bands, that has its place on the ribbon this way
-pub record HasPlace (run : List ℕ) (at size : ℕ) (ribbon : List ℕ) (way : Way) : Type 0 where
+pub record HasPlace (run : List ℕ) (at size : ℕ) (ribbon : List ℕ) (way : Way ℕ) : Type 0 where
   pub in_run : at + size ≤ length run
   pub small : at + size < 65536
   pub some : 1 ≤ size

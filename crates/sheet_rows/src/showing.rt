@@ -4,8 +4,7 @@ ghost use Rattle.lists.specs.Fit.{list_ok_lem};
 ghost use Rattle.places.specs.Calls.{FindsPlaces};
 ghost use Rattle.sheet_rows.specs.Shows.{HasPlace, ShowsCode, ShowsCodes};
 
-use crate::Shown;
-use crate::rows::start_of;
+use crate::pieces::Shown;
 use lists::MOST_CODES;
 use places::{Place, Way, count_from};
 
@@ -15,15 +14,15 @@ fn show_code(bands: &[u8], at: usize, size: usize, ribbon: &[u8], way: Way) -> S
     requires { HasPlace bands.now at size ribbon.now way }
     ensures { ShowsCode (take size (drop at bands.now)) ribbon.now result }
 {
-    let start = start_of(way) as usize;
+    let mut shown = Shown { way, places: 0 };
+    let start = shown.start() as usize;
     let places = count_from(bands, at, size, ribbon, start);
-    Shown {
-        way: way,
-        places: places as u32,
-    }
+    shown.places = places as u32;
+    shown
 }
 
-// What is shown of each code of a fit list, in list order, by the records of their places.
+// What is shown of each code of a fit list, in list order, by the records of their places: by number, since both rows are longer
+// than the list.
 pub fn show_codes(
     bands: &[u8],
     lengths: &[u16],
@@ -38,14 +37,10 @@ pub fn show_codes(
         places: 0,
     }; MOST_CODES];
     let mut at = 0;
-    let mut i = 0;
-    while i < lengths.len() {
-        let size = lengths[i] as usize;
-        let place = records[i];
-        let way = place.way;
-        shown[i] = show_code(bands, at, size, ribbon, way);
+    for (i, length) in lengths.iter().enumerate() {
+        let size = usize::from(*length);
+        shown[i] = show_code(bands, at, size, ribbon, records[i].way);
         at += size;
-        i += 1;
     }
     shown
 }

@@ -150,21 +150,11 @@ module _ {f a : List ℕ} {n o i : ℕ} (s : Siding f a n o i) where
   pub siding_short : i < o → length f ≤ i → side_of f (ending o a) ≡ 0
   siding_short l m = s.left ∙ rw (next l, drop_of_length-le f m)
 
-  -- all bands are alike
-  pub siding_all : o ≤ i → side_of f (ending o a) ≡ 1
-  siding_all l = let m : length (ending o a) ≤ i = omega (arith, size) in s.left ∙ rw (drop_of_length-le (ending o a) m)
-
   -- band i decides, or is alike
   module _ (l : i < o) (m : i < length f) where
     here : side_of f (ending o a) ≡ side_of (get_or f i 0 ∷ drop (suc i) f) (get_or a (n + i) 0 ∷ drop (suc i) (ending o a))
     here = s.left ∙ ap (λ (w : List ℕ). side_of w (drop i (ending o a))) (drop-cons f i 0 m)
         ∙ ap (λ (w : List ℕ). side_of (get_or f i 0 ∷ drop (suc i) f) w) (next l)
-
-    pub siding_less : get_or f i 0 < get_or a (n + i) 0 → side_of f (ending o a) ≡ 0
-    siding_less k = here ∙ side_less (drop (suc i) f) (drop (suc i) (ending o a)) k
-
-    pub siding_more : get_or a (n + i) 0 < get_or f i 0 → side_of f (ending o a) ≡ 2
-    siding_more k = here ∙ side_more (drop (suc i) f) (drop (suc i) (ending o a)) k
 
     pub siding_same : get_or f i 0 ≡ get_or a (n + i) 0 → Siding f a n o (i + 1)
     siding_same e =

@@ -1,7 +1,8 @@
--- Words in the order of their bands (lexicographic), the faces of parts sorted in it, and what a search among them gives.
-use Rattle.std.specs.Prelude.{◌≡◌, List, [], ◌∷◌, ℕ, ◌+◌, ◌-◌, ◌*◌, ◌/◌, ◌≤◌, ◌<◌, ltb, length, drop, get_or}
+-- Words in the order of their bands (lexicographic), the faces of codes sorted in it, and what a search among them gives.
+use Rattle.std.specs.Prelude.{◌≡◌, ◌≢◌, List, [], ◌∷◌, ℕ, ◌+◌, ◌-◌, ◌*◌, ◌≤◌, ◌<◌, ltb, length, drop, get_or}
+use Rattle.words.specs.Turn.{turned}
 use Rattle.words.specs.Tests.{pick}
-use Rattle.parts.specs.Parts.{face_at, PartThere}
+use Rattle.greedy.specs.Reading.{face_of}
 
 -- The words that begin with x stand together in the order. A word is before them (0), one of them (1) or after them (2);
 -- a word that x is longer than and begins with is before them.
@@ -18,29 +19,43 @@ NotBefore g f = 1 ≤ side_of g f
 abbrev pub ending : ℕ → List ℕ → List ℕ
 ending o a = drop (length a - o) a
 
-module _ (run starts sizes : List ℕ) where
+module _ (ks : List (List ℕ)) where
+  -- faces in rising order
+  pub record Rising (faces : List ℕ) : Type 0 where
+    pub within : (i : ℕ) → i < length faces → get_or faces i 0 < 2 * length ks
+    pub rising : (i j : ℕ) → i < j → j < length faces
+        → NotBefore (face_of turned ks (get_or faces j 0)) (face_of turned ks (get_or faces i 0))
+
   -- the first m places have the faces below m, each of them, in rising order
   pub record SortedBelow (m : ℕ) (sorted : List ℕ) : Type 0 where
     pub room : m ≤ length sorted
     pub within : (i : ℕ) → i < m → get_or sorted i 0 < m
     pub each : (f : ℕ) → f < m → (i : ℕ) × (i < m) × (get_or sorted i 0 ≡ f)
     pub rising : (i j : ℕ) → i < j → j < m
-        → NotBefore (face_at run starts sizes (get_or sorted j 0)) (face_at run starts sizes (get_or sorted i 0))
+        → NotBefore (face_of turned ks (get_or sorted j 0)) (face_of turned ks (get_or sorted i 0))
 
-  -- all faces of n parts
-  abbrev pub SortedFaces : ℕ → List ℕ → Type 0
-  SortedFaces n sorted = SortedBelow (2 * n) sorted
+  -- all faces
+  abbrev pub SortedFaces : List ℕ → Type 0
+  SortedFaces sorted = SortedBelow (2 * length ks) sorted
 
-  -- m sorted faces, and a word that is sought among them: the last o bands of face a
-  pub record Seeks (m : ℕ) (sorted : List ℕ) (a o : ℕ) : Type 0 where
-    pub in_order : SortedBelow m sorted
-    pub faces : (f : ℕ) → f < m → PartThere run starts sizes (f / 2)
-    pub word : PartThere run starts sizes (a / 2)
-    pub size : o ≤ get_or sizes (a / 2) 0
+  -- what a type keeps of them: no face is missing
+  pub record AllSorted (sorted : List ℕ) : Type 0 where
+    pub room : 2 * length ks ≤ length sorted
+    pub within : (i : ℕ) → i < 2 * length ks → get_or sorted i 0 < 2 * length ks
+    pub each : (f : ℕ) → f < 2 * length ks → ((i : ℕ) → i < 2 * length ks → get_or sorted i 0 ≢ f) → ⊥
+    pub rising : (i j : ℕ) → i < j → j < 2 * length ks
+        → NotBefore (face_of turned ks (get_or sorted j 0)) (face_of turned ks (get_or sorted i 0))
 
-  -- the side of the face at a place, seen from the words that begin with the last o bands of face a
-  abbrev pub side_at : List ℕ → ℕ → ℕ → ℕ → ℕ
-  side_at sorted a o i = side_of (face_at run starts sizes (get_or sorted i 0)) (ending o (face_at run starts sizes a))
+  -- the side of the face at a place, seen from the words that begin with x
+  abbrev pub side_at : List ℕ → List ℕ → ℕ → ℕ
+  side_at faces x i = side_of (face_of turned ks (get_or faces i 0)) x
+
+-- The faces that begin with x, and all of these.
+pub record Begin (ks : List (List ℕ)) (x faces : List ℕ) : Type 0 where
+  pub within : (i : ℕ) → i < length faces → get_or faces i 0 < 2 * length ks
+  pub one : (i : ℕ) → i < length faces → side_at ks faces x i ≡ 1
+  pub each : (f : ℕ) → f < 2 * length ks → side_of (face_of turned ks f) x ≡ 1
+      → ((i : ℕ) → i < length faces → get_or faces i 0 ≢ f) → ⊥
 
 -- Of m places with sides s, those before `low` are before side k, and those from `high` on are not.
 pub record Narrowed (s : ℕ → ℕ) (k m low high : ℕ) : Type 0 where

@@ -4,6 +4,6 @@
 mod compare;
 mod insertion;
 mod ranges;
+mod sorted;
 
-pub use insertion::sort_faces;
-pub use ranges::{first_place, range_end};
+pub use sorted::Sorted;

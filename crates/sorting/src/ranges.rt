@@ -1,28 +1,31 @@
 // Where the sorted faces that begin with a given word begin and end.
-ghost use Rattle.sorting.specs.Sorted.{Seeks, side_at, Narrowed};
+ghost use Rattle.std.specs.Prelude.{◌≤◌, length};
+ghost use Rattle.std.specs.Ordering.{ordering_index};
+ghost use Rattle.matching.specs.Forms.{bands_of};
+ghost use Rattle.sorting.specs.Sorted.{Rising, ending, side_at, Narrowed};
 
-use crate::compare::face_side;
+use crate::compare::side;
+use matching::Form;
+use parts::Parts;
+use std::cmp::Ordering;
 
-// The first of m sorted places whose face is on side k or a later one, by bisection; those before `from` are not.
-pub fn first_place(
-    bands: &[u8],
-    starts: &[usize],
-    sizes: &[usize],
+// The first of the sorted faces that is on side `least` of the last o bands of d, or on a later one.
+pub(crate) fn first_place(
+    parts: &Parts<'_>,
     sorted: &[usize],
-    from: usize,
-    m: usize,
-    a: usize,
+    d: Form<'_>,
     o: usize,
-    k: usize,
+    least: Ordering,
 ) -> usize
-    requires { Seeks bands.now starts.now sizes.now m sorted.now a o × Narrowed (side_at bands.now starts.now sizes.now sorted.now a o) k m from m }
-    ensures { Narrowed (side_at bands.now starts.now sizes.now sorted.now a o) k m result result }
+    requires { Rising parts.now sorted.now × (o ≤ length d.word.now) }
+    ensures { Narrowed (side_at parts.now sorted.now (ending o (bands_of d.entry))) (ordering_index least) (length sorted.now) result result }
 {
-    let mut low = from;
-    let mut high = m;
+    let mut low = 0;
+    let mut high = sorted.len();
+    // A bisection by hand: `partition_point` asks for a test that may be called with any number, and this one compares faces.
     while low < high {
         let mid = low + (high - low) / 2;
-        if face_side(bands, starts, sizes, sorted[mid], a, o) < k {
+        if side(parts.face(sorted[mid]), d, o) < least {
             low = mid + 1;
         } else {
             high = mid;
@@ -31,26 +34,17 @@ pub fn first_place(
     low
 }
 
-// Where the range that begins at `low` ends: the faces that begin with the last o bands of face a. Mostly it is empty, as
-// its first place shows.
-pub fn range_end(
-    bands: &[u8],
-    starts: &[usize],
-    sizes: &[usize],
-    sorted: &[usize],
-    low: usize,
-    m: usize,
-    a: usize,
-    o: usize,
-) -> usize
-    requires { Seeks bands.now starts.now sizes.now m sorted.now a o × Narrowed (side_at bands.now starts.now sizes.now sorted.now a o) 2 m low m }
-    ensures { Narrowed (side_at bands.now starts.now sizes.now sorted.now a o) 2 m result result }
+// How many of the sorted faces begin with the last o bands of d, where none is before those that do. Mostly none does, as the
+// first shows.
+pub(crate) fn range_end(parts: &Parts<'_>, sorted: &[usize], d: Form<'_>, o: usize) -> usize
+    requires { Rising parts.now sorted.now × (o ≤ length d.word.now) }
+    ensures { Narrowed (side_at parts.now sorted.now (ending o (bands_of d.entry))) 2 (length sorted.now) result result }
 {
-    if low == m {
-        return m;
+    let Some((first, others)) = sorted.split_first() else {
+        return 0;
+    };
+    if Ordering::Equal < side(parts.face(*first), d, o) {
+        return 0;
     }
-    if 1 < face_side(bands, starts, sizes, sorted[low], a, o) {
-        return low;
-    }
-    first_place(bands, starts, sizes, sorted, low + 1, m, a, o, 2)
+    1 + first_place(parts, others, d, o, Ordering::Greater)
 }

@@ -3,4 +3,4 @@
 
 mod writing;
 
-pub use writing::{measure, write_bands};
+pub use writing::Order;

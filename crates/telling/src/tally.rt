@@ -1,47 +1,61 @@
 // The checksum over the texts of cases. Where a case is printed in full, what is said is printed as well.
-use cases::look;
-use itoa::Buffer;
+use std::fmt;
 
 // the checksum's modulus and factor, both prime
 const MODULUS: u64 = 4294967291;
 
 const FACTOR: u64 = 16777619;
 
-// The checksum so far, and whether what is said is printed.
-#[derive(Clone, Copy)]
-pub struct Tally {
-    pub sum: u64,
+#[derive(Clone, Copy, Default)]
+pub struct Checksum(u32);
+
+impl Checksum {
+    // A number goes into it.
+    pub fn feed(&mut self, n: u32) {
+        let fed = u64::from(self.0) * FACTOR + u64::from(n) + 1;
+        self.0 = (fed % MODULUS) as u32;
+    }
+
+    // Another checksum goes into it.
+    pub fn feed_sum(&mut self, other: Checksum) {
+        self.feed(other.0);
+    }
+}
+
+impl fmt::Display for Checksum {
+    fn fmt<W: fmt::Write>(&self, f: &mut fmt::Formatter<W>) -> fmt::Result {
+        write!(f, "{}", self.0)
+    }
+}
+
+// What is said of cases: its checksum, and whether it is printed.
+#[derive(Drop)]
+pub struct Tally<'a, R: Print> {
+    pub rt: &'a R,
+    pub sum: Checksum,
     pub loud: bool,
 }
 
-// A number below 2^32 goes into the checksum.
-pub fn feed(t: Tally, n: u64) -> Tally {
-    Tally {
-        sum: (t.sum % MODULUS * FACTOR + n % 4294967296 + 1) % MODULUS,
-        loud: t.loud,
+impl<'a, R: Print> Tally<'a, R> {
+    // Nothing is said yet.
+    pub fn new(rt: &'a R, loud: bool) -> Self {
+        Tally {
+            rt,
+            sum: Checksum::default(),
+            loud,
+        }
     }
 }
 
-// A word is said, byte by byte; one that cannot be printed still goes into the checksum.
-pub fn say_word(rt: &impl Print, t: Tally, word: &[u8]) -> Tally {
-    if t.loud {
-        let _ = rt.write_all(word);
+impl<R: Print> fmt::Write for Tally<'_, R> {
+    // A text that cannot be printed still goes into the checksum.
+    fn write_str(&mut self, text: &str) -> fmt::Result {
+        if self.loud {
+            let _ = self.rt.write_all(text.as_bytes());
+        }
+        for b in text.as_bytes() {
+            self.sum.feed(u32::from(*b));
+        }
+        Ok(())
     }
-    let mut told = t;
-    for i in 0..word.len() {
-        told = feed(told, look(word, i) as u64);
-    }
-    told
-}
-
-// A byte is said.
-pub fn say(rt: &impl Print, t: Tally, b: u8) -> Tally {
-    let word = [b];
-    say_word(rt, t, &word)
-}
-
-// A number is said in decimal.
-pub fn say_number(rt: &impl Print, t: Tally, n: u64) -> Tally {
-    let mut digits = Buffer::new();
-    say_word(rt, t, digits.format(n).as_bytes())
 }

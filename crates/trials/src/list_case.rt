@@ -1,187 +1,106 @@
 // A case of a list that other code hands over: laying it out, checking a supplied ribbon in three ways, and its sheet.
-ghost use Rattle.std.specs.Prelude.{◌≤◌};
-
+use cases::ListRooms;
 use outcomes::{
-    MOST_RECORDS, blank_records, check_front, marked_records, say_checked, say_laid, say_wrote,
-    tell_records, widened,
+    MOST_BYTES, MOST_RECORDS, blank_record, lend, say_answer, say_items, tell, tell_since,
 };
-use ribbons::{Checked, Laid, MOST_CODES, Place, Wrote};
-use telling::{
-    MOST_BYTES, Tally, bytes_line, lend_bytes, numbers_line, room, say_form, tell_bytes,
-};
+use ribbons::{Checked, Refusal};
+use std::fmt;
+use std::fmt::Write;
+use telling::Tally;
 
-// The list, its names and the supplied ribbon.
-fn say_list(
-    rt: &impl Print,
-    t: Tally,
-    bands: &[u8],
-    lengths: &[u16],
-    names: &[u8],
-    sizes: &[u16],
-    ribbon: &[u8],
-) -> Tally {
-    let mut told = bytes_line(rt, t, b"codes,#,", bands);
-    told = numbers_line(rt, told, b"lengths,#,", lengths);
-    told = bytes_line(rt, told, b"names,#,", names);
-    told = numbers_line(rt, told, b"sizes,#,", sizes);
-    bytes_line(rt, told, b"supplied,#,", ribbon)
-}
-
-// The bands that are laid out.
-fn laid_bands(laid: Laid) -> usize {
-    match laid {
-        Laid::Refused(_) => 0,
-        Laid::Ribbon { bands, saved: _ } => bands as usize,
-    }
-}
-
-// The list laid out into a lent buffer.
-fn tell_laid(rt: &impl Print, t: Tally, bands: &[u8], lengths: &[u16], ribbon: &mut [u8]) -> Tally {
-    let laid = ribbons::lay_ribbon(bands, lengths, ribbon);
-    tell_bytes(
-        rt,
-        say_laid(rt, t, laid),
-        b"ribbon,#,",
-        ribbon,
-        laid_bands(laid),
-    )
+// The list, its names, a supplied ribbon, and the rooms that are lent.
+#[derive(Clone, Copy)]
+pub struct ListCase<'a> {
+    pub bands: &'a [u8],
+    pub lengths: &'a [u16],
+    pub names: &'a [u8],
+    pub sizes: &'a [u16],
+    pub ribbon: &'a [u8],
+    pub rooms: ListRooms,
 }
 
 // How many records are due: one for each code where all are held.
-fn records_due(answer: Checked, codes: usize) -> usize {
+fn records_due(answer: Result<Checked, Refusal>, codes: usize) -> usize {
     match answer {
-        Checked::Held(_) => codes,
+        Ok(Checked::Held(_)) => codes,
         _ => 0,
     }
 }
 
-// The room for records that a case names, or the most.
-fn records_room(rooms: &[u16]) -> usize
-    ensures { result ≤ 130 }
-{
-    let n = room(rooms, 1);
-    if n < MOST_RECORDS {
-        return n;
+impl ListCase<'_> {
+    fn say(self, t: &mut Tally<impl Print>) -> fmt::Result {
+        say_items(t, "codes", self.bands)?;
+        say_items(t, "lengths", self.lengths)?;
+        say_items(t, "names", self.names)?;
+        say_items(t, "sizes", self.sizes)?;
+        say_items(t, "supplied", self.ribbon)
     }
-    MOST_RECORDS
-}
 
-// The ribbon checked into so many lent records.
-fn tell_checked(
-    rt: &impl Print,
-    t: Tally,
-    bands: &[u8],
-    lengths: &[u16],
-    ribbon: &[u8],
-    room: usize,
-) -> Tally
-    requires { room ≤ 130 }
-{
-    let before: [Place; MOST_RECORDS] = marked_records();
-    let recorded = check_front(bands, lengths, ribbon, before, room);
-    let answer = recorded.answer;
-    let after = recorded.places;
-    let said = say_checked(rt, t, b"check", answer);
-    let due = records_due(answer, lengths.len());
-    tell_records(rt, said, b"records,#,", before, after, room, due)
-}
-
-// The ribbon checked for so many records, which are handed back by value.
-fn tell_places(
-    rt: &impl Print,
-    t: Tally,
-    bands: &[u8],
-    lengths: &[u16],
-    ribbon: &[u8],
-    room: usize,
-) -> Tally {
-    let findings = ribbons::check_places(bands, lengths, ribbon, room);
-    let answer = findings.answer;
-    let records = findings.records;
-    let said = say_checked(rt, t, b"places", answer);
-    tell_records(
-        rt,
-        said,
-        b"found,#,",
-        blank_records(),
-        widened(records),
-        MOST_CODES,
-        findings.due,
-    )
-}
-
-// The bytes of the sheet.
-fn sheet_bytes(wrote: Wrote) -> usize {
-    match wrote {
-        Wrote::Refused(_) => 0,
-        Wrote::Sheet { bytes, saved: _ } => bytes as usize,
+    // The list laid out into a lent buffer.
+    fn tell_laid(self, t: &mut Tally<impl Print>) -> fmt::Result {
+        let mut row = [0u8; MOST_BYTES];
+        let ribbon = lend(&mut row, self.rooms.ribbon);
+        let laid = ribbons::lay_ribbon(self.bands, self.lengths, ribbon);
+        say_answer(t, "lay", laid)?;
+        tell(
+            t,
+            "ribbon",
+            ribbon,
+            laid.map_or(0, |laid| laid.bands as usize),
+        )
     }
-}
 
-// The sheet written into a lent buffer.
-fn tell_sheet(
-    rt: &impl Print,
-    t: Tally,
-    bands: &[u8],
-    lengths: &[u16],
-    names: &[u8],
-    sizes: &[u16],
-    rows: &mut [u8],
-) -> Tally {
-    let wrote = ribbons::write_sheet(bands, lengths, names, sizes, rows);
-    tell_bytes(
-        rt,
-        say_wrote(rt, t, wrote),
-        b"rows,#,",
-        rows,
-        sheet_bytes(wrote),
-    )
-}
+    // The ribbon checked into lent records.
+    fn tell_checked(self, t: &mut Tally<impl Print>) -> fmt::Result {
+        let mut row = [blank_record(); MOST_RECORDS];
+        let records = lend(&mut row, self.rooms.records);
+        let answer = ribbons::check_ribbon(self.bands, self.lengths, self.ribbon, records);
+        say_answer(t, "check", answer)?;
+        tell(
+            t,
+            "records",
+            records,
+            records_due(answer, self.lengths.len()),
+        )
+    }
 
-// The ribbon checked in three ways.
-fn tell_checks(
-    rt: &impl Print,
-    t: Tally,
-    bands: &[u8],
-    lengths: &[u16],
-    ribbon: &[u8],
-    rooms: &[u16],
-) -> Tally {
-    let n = records_room(rooms);
-    let mut told = tell_checked(rt, t, bands, lengths, ribbon, n);
-    told = tell_places(rt, told, bands, lengths, ribbon, n);
-    say_checked(
-        rt,
-        told,
-        b"only",
-        ribbons::check_only(bands, lengths, ribbon),
-    )
-}
+    // The ribbon checked for so many records, which are handed back by value.
+    fn tell_places(self, t: &mut Tally<impl Print>) -> fmt::Result {
+        let room = self.rooms.records.min(MOST_RECORDS);
+        let findings = ribbons::check_places(self.bands, self.lengths, self.ribbon, room);
+        say_answer(t, "places", findings.answer)?;
+        tell_since(
+            t,
+            "found",
+            &findings.records,
+            findings.due,
+            |_| blank_record(),
+        )
+    }
 
-// Runs case k and tells it.
-pub fn run_list(
-    rt: &impl Print,
-    t: Tally,
-    k: u64,
-    bands: &[u8],
-    lengths: &[u16],
-    names: &[u8],
-    sizes: &[u16],
-    ribbon: &[u8],
-    rooms: &[u16],
-) -> Tally {
-    let mut told = say_form(rt, t, b"case,#,list\n", k, 0, 0);
-    told = say_list(rt, told, bands, lengths, names, sizes, ribbon);
-    let mut laid = [0u8; MOST_BYTES];
-    told = tell_laid(
-        rt,
-        told,
-        bands,
-        lengths,
-        lend_bytes(&mut laid, room(rooms, 0)),
-    );
-    told = tell_checks(rt, told, bands, lengths, ribbon, rooms);
-    let mut rows = [0u8; MOST_BYTES];
-    let lent = lend_bytes(&mut rows, room(rooms, 2));
-    tell_sheet(rt, told, bands, lengths, names, sizes, lent)
+    // The sheet written into a lent buffer.
+    fn tell_sheet(self, t: &mut Tally<impl Print>) -> fmt::Result {
+        let mut row = [0u8; MOST_BYTES];
+        let rows = lend(&mut row, self.rooms.sheet);
+        let wrote = ribbons::write_sheet(self.bands, self.lengths, self.names, self.sizes, rows);
+        say_answer(t, "sheet", wrote)?;
+        tell(
+            t,
+            "rows",
+            rows,
+            wrote.map_or(0, |wrote| wrote.bytes as usize),
+        )
+    }
+
+    // Runs case k and tells it.
+    pub fn run(self, t: &mut Tally<impl Print>, k: u64) -> fmt::Result {
+        writeln!(t, "case,{k},list")?;
+        self.say(t)?;
+        self.tell_laid(t)?;
+        self.tell_checked(t)?;
+        self.tell_places(t)?;
+        let checked = ribbons::check_only(self.bands, self.lengths, self.ribbon);
+        say_answer(t, "only", checked)?;
+        self.tell_sheet(t)
+    }
 }

@@ -7,25 +7,28 @@ mod case_lines; // cases written out
 mod file_case;
 mod groups; // the file of cases, line by line
 mod list_case;
-mod making; // a generated case
+mod made_case; // a generated case
 mod pair_case;
+mod shown; // the texts that are printed
 
 use groups::run_lines;
+use shown::Shown;
 use std::rt::Env;
 
 // the most bytes of a file of cases
 const ROOM: usize = 131072;
 
-// The first letter of the first argument, which tells what texts are printed; 0 if there is none.
-fn mode(rt: &HostRuntime) -> u8 {
+// What the first argument asks for.
+fn asked(rt: &HostRuntime) -> Shown {
     let mut argument = [0u8; 4096];
-    let _ = rt.arg(1, &mut argument);
-    argument[0]
+    let n = rt.arg(1, &mut argument).unwrap_or(0);
+    Shown::from(&argument[..n])
 }
 
 fn main(rt: HostRuntime) {
     let mut file = [0u8; ROOM];
     let n = files::read_whole(&mut rt.stdin(), &mut file);
+    // a failed write is passed over: the checksums tell of the calls all the same
     let _ = rt.write_all(b"group,cases,checksum\n");
-    run_lines(&rt, &file[..n], mode(&rt));
+    let _ = run_lines(&rt, &file[..n], asked(&rt));
 }

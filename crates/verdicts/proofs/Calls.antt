@@ -2,6 +2,7 @@
 -- the claim that ours meets. Records that are lent past those due stay, so a check with room for 128 answers for any more.
 use mathlib.Core.Path.{◌≡◌, refl, sym, ap, ap₂, subst, ◌∙◌}
 use mathlib.Core.Bool.{Bool, true, false}
+use Rattle.std.proofs.Common.{Result, Ok, Err, IsOk, rules}
 use mathlib.Core.List.{List, [], ◌∷◌, ◌++◌, map-append, append_assoc}
 use Prim.Native.Nat.{ℕ, zero, suc, ◌≤◌, ◌<◌}
 use native.Mathlib.Omega.{arith}
@@ -12,13 +13,20 @@ use lib.Seq.{length-take-le, drop-append-le}
 use borrow.Author.Tests.{ne_eqb, lt-ltb, le-ltb, ltb-true, ltb-false}
 use Rattle.words.specs.Turn.{turned}
 use Rattle.words.proofs.Deciding.{holds, passes}
-use Rattle.lists.specs.Refusals.{whole, false_list_number, long_ribbon_number, unknown_colour_number, short_buffer_number}
+use Rattle.lists.specs.Refusals.{whole, false_list_number, long_ribbon_number, short_buffer_number}
+use Rattle.lists.specs.Answers.{number_of}
+use Rattle.lists.specs.declared.numbers.Fault.{Fault}
+use Rattle.lists.specs.declared.numbers.Refusal.{Refusal}
+use Rattle.lists.proofs.Table.{some_number}
 use Rattle.lists.specs.Outcome.{outcome}
 use Rattle.lists.specs.Runs.{codes_in, over}
 use Rattle.lists.specs.Fit.{list_ok_lem, all_bands_lem}
 use Rattle.lists.proofs.Runs.{codes_count}
 use Rattle.lists.proofs.Rules.{codes_checked, is_fit_list}
 use Rattle.greedy.specs.Layout.{ribbon_for}
+use Rattle.layout.specs.declared.Laid.{Laid}
+use Rattle.layout.specs.Calls.{LaysRibbon}
+use Rattle.layout.proofs.Calls.{never_refused}
 use Rattle.places.specs.declared.Place as declared
 use Rattle.verdicts.specs.declared.Checked.{Checked}
 use Rattle.verdicts.specs.declared.Checked.TheVariants.{Held}
@@ -33,18 +41,14 @@ use Rattle.places.proofs.Finding.{count_missing, none_is_missing, records_are}
 
 -- The refusals of what is supplied, by their tests.
 module _ (run ls row : List ℕ) where
-  pub false_fault : list_ok_lem run ls ≡ false → supplied_fault_lem run ls row ≡ false_list_number
+  false_fault : list_ok_lem run ls ≡ false → supplied_fault_lem run ls row ≡ false_list_number
   false_fault e = rw (e, supplied_fault_lem)
 
-  pub long_fault : list_ok_lem run ls ≡ true → 16384 < length row → supplied_fault_lem run ls row ≡ long_ribbon_number
+  long_fault : list_ok_lem run ls ≡ true → 16384 < length row → supplied_fault_lem run ls row ≡ long_ribbon_number
   long_fault e l = rw (e, lt-ltb 16384 (length row) l, supplied_fault_lem)
 
-  module _ (ok : list_ok_lem run ls ≡ true) (l : length row ≤ 16384) where
-    pub colour_fault : all_bands_lem row ≡ false → supplied_fault_lem run ls row ≡ unknown_colour_number
-    colour_fault e = rw (ok, le-ltb 16384 (length row) l, e, supplied_fault_lem)
-
-    pub no_fault : all_bands_lem row ≡ true → supplied_fault_lem run ls row ≡ 0
-    no_fault e = rw (ok, le-ltb 16384 (length row) l, e, supplied_fault_lem)
+  pub no_fault : list_ok_lem run ls ≡ true → length row ≤ 16384 → all_bands_lem row ≡ true → supplied_fault_lem run ls row ≡ 0
+  no_fault ok l e = rw (ok, le-ltb 16384 (length row) l, e, supplied_fault_lem)
 
   -- where no refusal is due the list is fit and the ribbon not too long
   pub not_faulty : supplied_fault_lem run ls row ≡ 0 → (list_ok_lem run ls ≡ true) × (length row ≤ 16384)
@@ -55,6 +59,12 @@ module _ (run ls row : List ℕ) where
       by false f l g = absurd (omega (arith, false_fault f, e))
       by true f true g = absurd (omega (arith, long_fault f (ltb-true 16384 (length row) g), e))
       by true f false g = (f, ltb-false 16384 (length row) g)
+
+-- A fit list is laid out where there is room for any ribbon.
+pub is_laid : (run ls before : List ℕ) {after : List ℕ} → list_ok_lem run ls ≡ true → 8192 ≤ length before
+    → (r : Result Laid Refusal) → LaysRibbon run ls before after r → IsOk r
+is_laid run ls before ok room (Ok laid) p = search rules
+is_laid run ls before ok room (Err e) p = absurd (never_refused run ls before ok room p)
 
 -- The outcome, by what is found.
 module _ (run ls row : List ℕ) (records : List PlaceRecord) where
@@ -92,7 +102,7 @@ over_records ps before =
     (map-drop (length ps) before ∙ ap (λ (n : ℕ). drop n (records_of before)) (sym (length-map ps record_of_lem)))
 
 -- The promise, from the one outcome that is defined.
-checks_so : {run ls row : List ℕ} {before after : List declared.Place} {r : Checked}
+checks_so : {run ls row : List ℕ} {before after : List declared.Place} {r : Result Checked Refusal}
     → check_outcome run ls row (records_of before) ≡ outcome (answer_of r) (records_of after)
     → ChecksRibbon run ls row before after r
 checks_so {run} {ls} {row} {before} e =
@@ -103,7 +113,7 @@ checks_so {run} {ls} {row} {before} e =
     }
 
 module _ (run ls row : List ℕ) (room : ℕ) where
-  none_due : {r : Checked} {due : ℕ} {all : List declared.Place} → due ≡ 0
+  none_due : {r : Result Checked Refusal} {due : ℕ} {all : List declared.Place} → due ≡ 0
       → all ≡ blanks → ((before : List declared.Place) → length before ≡ room
       → check_outcome run ls row (records_of before) ≡ outcome (answer_of r) (records_of before))
       → ChecksInRoom run ls row room r due all
@@ -117,15 +127,16 @@ module _ (run ls row : List ℕ) (room : ℕ) where
             subst (λ (n : ℕ). ChecksRibbon run ls row before (over (take n all) before) r) (sym z) (checks_so (f before l));
       }
 
-  pub refused_in_room : {r : Checked} {due : ℕ} {all : List declared.Place} {f : ℕ} → f ≡ supplied_fault_lem run ls row
-      → (f ≡ 0 → ⊥) → answer_of r ≡ refused (whole f) → due ≡ 0 → all ≡ blanks → ChecksInRoom run ls row room r due all
-  refused_in_room e n a z b =
+  pub refused_in_room : (f : Fault) {r : Result Checked Refusal} {due : ℕ} {all : List declared.Place}
+      → number_of f ≡ supplied_fault_lem run ls row → answer_of r ≡ refused (whole (number_of f)) → due ≡ 0 → all ≡ blanks
+      → ChecksInRoom run ls row room r due all
+  refused_in_room f e a z b =
       none_due z b (λ before l.
-      refused_outcome run ls row (records_of before) (sym e) n
+      refused_outcome run ls row (records_of before) (sym e) (λ n. omega (arith, some_number f, n))
       ∙ ap (λ (x : CheckAnswer). outcome x (records_of before)) (sym a))
 
   module _ (fit : supplied_fault_lem run ls row ≡ 0) {count : ℕ} {places : List declared.Place} (p : FindsPlaces run ls row count places) where
-    pub missing_in_room : {r : Checked} {due : ℕ} {all : List declared.Place} → count < length ls → answer_of r ≡ missing_code count
+    pub missing_in_room : {r : Result Checked Refusal} {due : ℕ} {all : List declared.Place} → count < length ls → answer_of r ≡ missing_code count
         → due ≡ 0 → all ≡ blanks → ChecksInRoom run ls row room r due all
     missing_in_room l a z b =
         none_due z b (λ before m.
@@ -133,7 +144,7 @@ module _ (run ls row : List ℕ) (room : ℕ) where
         ∙ ap (λ (x : CheckAnswer). outcome x (records_of before)) (sym a))
 
     module _ (l : length ls ≤ count) where
-      pub short_in_room : {r : Checked} {due : ℕ} {all : List declared.Place} → room < count → answer_of r ≡ refused (whole short_buffer_number)
+      pub short_in_room : {r : Result Checked Refusal} {due : ℕ} {all : List declared.Place} → room < count → answer_of r ≡ refused (whole short_buffer_number)
           → due ≡ 0 → all ≡ blanks → ChecksInRoom run ls row room r due all
       short_in_room s a z b =
           none_due z b (λ before m.
@@ -142,7 +153,7 @@ module _ (run ls row : List ℕ) (room : ℕ) where
           ∙ ap (λ (x : CheckAnswer). outcome x (records_of before)) (sym a))
 
       pub held_in_room : {d : ℤ} → count ≤ room → d ≡ less (length row) (length (ribbon_for turned (codes_in run ls)))
-          → ChecksInRoom run ls row room (Held d) count places
+          → ChecksInRoom run ls row room (Ok (Held d)) count places
       held_in_room {d} k e =
           record {
             few = omega (arith, p.within, (holds (is_fit_list run ls) (not_faulty run ls row fit).0).at_most);
@@ -183,7 +194,7 @@ module _ {run ls row : List ℕ} (short rest : List PlaceRecord) (h : 128 ≤ le
       subst (λ (ts : List PlaceRecord). ChecksInto run ls row (short ++ rest) (outcome (held v) ts)) (sym e)
       (filled rs F a (omega (arith, l, length-append short rest)) y d z)
 
-more_records : {run ls row : List ℕ} {short after : List declared.Place} {r : Checked} (rest : List declared.Place)
+more_records : {run ls row : List ℕ} {short after : List declared.Place} {r : Result Checked Refusal} (rest : List declared.Place)
     → 128 ≤ length short → ChecksRibbon run ls row short after r → ChecksRibbon run ls row (short ++ rest) (after ++ rest) r
 more_records {run} {ls} {row} {short} {after} {r} rest h p =
     checks_so (sym (into_only run ls row (records_of (short ++ rest))
@@ -193,7 +204,7 @@ more_records {run} {ls} {row} {short} {after} {r} rest h p =
     (sym (map-append record_of_lem after rest))
     (more_lent (records_of short) (records_of rest) (omega (arith, length-map short record_of_lem)) p.means)))))
 
-pub checks_alone : {run ls row : List ℕ} {r : Checked} {due : ℕ} {all : List declared.Place} → ChecksInRoom run ls row 128 r due all
+pub checks_alone : {run ls row : List ℕ} {r : Result Checked Refusal} {due : ℕ} {all : List declared.Place} → ChecksInRoom run ls row 128 r due all
     → ChecksAlone run ls row r
 checks_alone {run} {ls} {row} {r} {due} {all} p =
     record {

@@ -1,4 +1,5 @@
--- The difference of two lengths in 32 bits: a number below 2 ^ 31 is itself as a signed one, and so is 0 less that number.
+-- The difference of two lengths as a signed number is the one of the definition; and so it is in 32 bits: a number below 2 ^ 31
+-- is itself as a signed one, and so is 0 less that number.
 use mathlib.Core.Path.{◌≡◌, sym, ap, subst, ◌∙◌}
 use Prim.Native.Nat.{ℕ, zero, suc, ◌-◌, ◌<◌, ◌≤◌, ◌^◌}
 use native.Mathlib.Omega.{arith}
@@ -7,7 +8,11 @@ use borrow.Author.Tests.{lt-ltb, le-leb, lt-leb}
 use mir.Syntax.{w32}
 use mir.Val.{to_z, of_z, SFits}
 use mir.ValLaws.{to_z_pos, to_z-of_z}
+use Rattle.std.proofs.lemmas.Int.{ints}
 use Rattle.checking.specs.Answers.{less}
+
+pub less_is : (a b : ℕ) → pos a -ℤ pos b ≡ less a b
+less_is a b = grind (arith, ints)
 
 neg_pos : (n : ℕ) → 0 < n → pos 0 -ℤ pos n ≡ negsuc (n - 1)
 neg_pos zero h = absurd (omega arith)

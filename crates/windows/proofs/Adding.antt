@@ -59,9 +59,6 @@ module _ {s : List ℕ} {n h v : ℕ} (w : Windowed s n h v) where
 
 -- Starts passed over: each that is not below the least adds up to neither sum.
 module _ {s : List ℕ} {n a b least : ℕ} where
-  pub skipped_none : {h : ℕ} → Skipped s n a b h least h
-  skipped_none = record { not_given = λ i p q r. absurd (omega arith); not_turned = λ i p q r. absurd (omega arith) }
-
   pub skipped_more : {h t v : ℕ} → Skipped s n a b h least t → Windowed s n t v
       → ((least ≤ t) × ((v ≡ a) ⊎ (v ≡ b)) → ⊥) → Skipped s n a b h least (t + 1)
   skipped_more {h} {t} {v} k w f =

@@ -1,14 +1,12 @@
 // Starts at which a word can stand: those from which as many bands as it has add up to the same sum. One number for each band,
 // its byte, is added as the window moves on, and one is taken off, so a start that does not fit costs a comparison a way.
-ghost use Rattle.std.specs.Prelude.{◌≡◌, ◌⊎◌, ◌+◌, ◌≤◌, ◌<◌, leb, length};
-ghost use Rattle.words.specs.Tests.{pick};
+ghost use Rattle.std.specs.Prelude.{◌≡◌, ◌⊎◌, ◌↔◌, IsTrue, ◌+◌, ◌≤◌, ◌<◌, length};
 ghost use Rattle.words.specs.Turn.{turned};
-ghost use Rattle.words.specs.Ways.{way_of};
-ghost use Rattle.words.specs.Decides.{Decides};
 ghost use Rattle.lists.specs.Runs.{total};
+ghost use Rattle.matching.specs.Forms.{bands_of};
 ghost use Rattle.windows.specs.Windows.{Windowed, Skipped};
 
-use matching::band_at;
+use matching::Form;
 
 // What the bands of a word add up to, as given and turned.
 #[derive(Clone, Copy)]
@@ -24,22 +22,15 @@ pub struct Window {
     pub sum: usize,
 }
 
-fn wide(x: u8) -> usize
-    ensures { (result ≡ x) × (result < 256) }
+// The bands of a form added up.
+fn sum_of(form: Form<'_>) -> usize
+    requires { length form.word.now ≤ 64 }
+    ensures { result ≡ total (bands_of form.entry) }
 {
-    x as usize
-}
-
-// The bands of a way of c added up.
-fn sum_of(c: &[u8], turned: bool) -> usize
-    requires { length c.now ≤ 64 }
-    ensures { result ≡ total (way_of turned c.now) }
-{
-    let mut sum: usize = 0;
-    let mut i = 0;
-    while i < c.len() {
-        sum += wide(band_at(c, turned, i));
-        i += 1;
+    let mut sum = 0;
+    // Numbers, since a form is read from one end or the other.
+    for i in 0..form.len() {
+        sum += usize::from(form.band(i));
     }
     sum
 }
@@ -49,8 +40,8 @@ pub fn sums_of(c: &[u8]) -> Sums
     ensures { (result.given ≡ total c.now) × (result.turned ≡ total (turned c.now)) }
 {
     Sums {
-        given: sum_of(c, false),
-        turned: sum_of(c, true),
+        given: sum_of(Form::given(c)),
+        turned: sum_of(Form::turned(c)),
     }
 }
 
@@ -60,25 +51,16 @@ pub fn window_at(s: &[u8], start: usize, n: usize) -> Window
     ensures { (result.start ≡ start) × Windowed s.now n result.start result.sum }
 {
     Window {
-        start: start,
-        sum: sum_of(&s[start..start + n], false),
+        start,
+        sum: sum_of(Form::given(&s[start..start + n])),
     }
-}
-
-// The longer of two matches.
-pub fn longer(g: usize, t: usize) -> usize
-    ensures { result ≡ pick (leb g t) t g }
-{
-    if g <= t {
-        return t;
-    }
-    g
 }
 
 // A start is not before the least that is left, and its bands add up as one way's do.
 fn fits(least: usize, sums: Sums, w: Window) -> bool
-    ensures { Decides ((least ≤ w.start) × ((w.sum ≡ sums.given) ⊎ (w.sum ≡ sums.turned))) result }
+    ensures { IsTrue result ↔ ((least ≤ w.start) × ((w.sum ≡ sums.given) ⊎ (w.sum ≡ sums.turned))) }
 {
+    // Not by `&&` and `||`, which compare both sums at each start: a row without the word took a fifth longer at the least.
     if w.start < least {
         return false;
     }
@@ -95,6 +77,7 @@ pub fn next_fit(s: &[u8], n: usize, sums: Sums, from: Window, least: usize) -> W
     ensures { Windowed s.now n result.start result.sum × Skipped s.now n sums.given sums.turned from.start least result.start }
 {
     let mut w = from;
+    // No `for` over the starts: with a count beside the window a row of nearly equal codes took a fifth longer to check.
     while w.start + n < s.len() {
         if fits(least, sums, w) {
             return w;
@@ -102,7 +85,7 @@ pub fn next_fit(s: &[u8], n: usize, sums: Sums, from: Window, least: usize) -> W
         let start = w.start;
         w = Window {
             start: start + 1,
-            sum: w.sum - wide(s[start]) + wide(s[start + n]),
+            sum: w.sum - usize::from(s[start]) + usize::from(s[start + n]),
         };
     }
     w

@@ -5,8 +5,8 @@ use mathlib.Core.List.{List, [], ◌∷◌, ◌++◌, append_assoc}
 use Prim.Native.Nat.{ℕ, ◌+◌, ◌≤◌, ◌<◌}
 use native.Mathlib.Numerals.{add-one}
 use native.Mathlib.Omega.{arith}
-use lib.ListN.{length, take, drop, set, get_or, length-append, length-drop}
-use lib.Seq.{paste, paste-suc, length-take-le, take_at, take-length, drop-append-add, drop-drop, set_split}
+use lib.ListN.{length, take, drop, set, length-append, length-drop}
+use lib.Seq.{paste, length-take-le, take_at, take-length, drop-append-add, drop-drop, set_split}
 use Rattle.words.specs.Written.{Written}
 
 -- writing within a row keeps its length
@@ -29,9 +29,6 @@ written_as {row} {at} {after = after} {end = end} e w = subst⁻¹ (λ (s : List
 
 -- A copy, band by band.
 module _ (row : List ℕ) (at : ℕ) (s : List ℕ) {now : List ℕ} {j : ℕ} (so_far : now ≡ paste row at s j) where
-  pub copy_more : {v : ℕ} → v ≡ get_or s j 0 → at + j < length row → j < length s → set now (at + j) v ≡ paste row at s (j + 1)
-  copy_more e h l = rw (add-one j, so_far, e) (paste-suc row at s j 0 h l)
-
   pub copy_written : j ≡ length s → Written row at s now (at + j)
   copy_written e =
       record {

@@ -3,6 +3,7 @@
 -- what it means follows from it.
 use mathlib.Core.Path.{◌≡◌, refl, sym, ap, ap₂, subst, ◌∙◌}
 use mathlib.Core.Bool.{Bool, true, false, ◌&&◌, not, true≢false}
+use Rattle.std.proofs.Common.{Result, Ok}
 use mathlib.Core.List.{List}
 use Prim.Native.Nat.{ℕ, ◌≤◌, ◌<◌}
 use native.Mathlib.Omega.{arith}
@@ -15,6 +16,7 @@ use Rattle.words.proofs.Tests.{both}
 use Rattle.words.proofs.Deciding.{passes, not_lt}
 use Rattle.words.proofs.Placing.{found_exactly}
 use Rattle.lists.specs.Refusals.{whole, false_list_number, short_buffer_number}
+use Rattle.lists.specs.declared.numbers.Refusal.{Refusal}
 use Rattle.lists.specs.Outcome.{outcome}
 use Rattle.lists.specs.Runs.{codes_in, over}
 use Rattle.lists.specs.Fit.{list_ok_lem, names_ok_lem}
@@ -29,7 +31,7 @@ use Rattle.places.specs.declared.Place.{Place}
 use Rattle.checking.proofs.Check.{stands_at}
 use Rattle.sheet_rows.specs.Shows.{ShowsCodes}
 use Rattle.sheet_rows.specs.Placed.{RowsThere, placed_sheet}
-use Rattle.sheet_rows.specs.declared.Shown.{Shown}
+use Rattle.sheet_rows.specs.declared.pieces.Shown.{Shown}
 use Rattle.sheets.specs.Answers.{SheetAnswer, SheetOutcome, refused, written, SheetsInto, sheet_for, sheet_outcome}
 use Rattle.sheet_rows.proofs.Placed.{placed_is_sheet, rows_there}
 use Rattle.sheets.proofs.Room.{sheet_at_most}
@@ -37,7 +39,6 @@ use Rattle.sheets.proofs.Answers.{if_tests, sheets_ours}
 use Rattle.pages.specs.Pages.{PutsSheet}
 use Rattle.writer.specs.Calls.{answer_of, WritesSheet, Ready, laid_outcome, Gives}
 use Rattle.writer.specs.declared.Wrote.{Wrote}
-use Rattle.writer.specs.declared.Wrote.TheVariants.{Sheet}
 
 -- a sheet: too long for the buffer, or written
 module _ (run ls name_run name_ls : List ℕ) {size : ℕ} (long : size ≡ length (sheet_for run ls name_run name_ls)) (saved : ℕ)
@@ -45,7 +46,7 @@ module _ (run ls name_run name_ls : List ℕ) {size : ℕ} (long : size ≡ leng
   room : (t : Bool) → ltb (length buffer) size ≡ t → ltb (length buffer) (length (sheet_for run ls name_run name_ls)) ≡ t
   room t e = ap (ltb (length buffer)) (sym long) ∙ e
 
-  gives_short : {r : Wrote} → length buffer < size → answer_of r ≡ refused (whole short_buffer_number)
+  gives_short : {r : Result Wrote Refusal} → length buffer < size → answer_of r ≡ refused (whole short_buffer_number)
       → Gives (laid_outcome run ls name_run name_ls saved buffer) buffer r
   unfolding laid_outcome
   gives_short l e =
@@ -53,7 +54,7 @@ module _ (run ls name_run name_ls : List ℕ) {size : ℕ} (long : size ≡ leng
       record { answer = rw (t, laid_outcome) e; left = rw (t, laid_outcome) }
 
   gives_sheet : {after : List ℕ} → size ≤ length buffer → after ≡ over (sheet_for run ls name_run name_ls) buffer
-      → Gives (laid_outcome run ls name_run name_ls saved buffer) after (Sheet size saved)
+      → Gives (laid_outcome run ls name_run name_ls saved buffer) after (Ok (record { bytes = size; saved = saved }))
   unfolding laid_outcome
   gives_sheet l e =
       let t = room false (le-ltb (length buffer) size l) in
@@ -96,20 +97,20 @@ module _ {run ls name_run name_ls ribbon : List ℕ} (h : Ready run ls name_run 
     size_short = omega (arith, e, ap length sheet_is, sheet_at_most run ls name_run name_ls h.list_fits h.names_fit)
 
     module _ (saved : ℕ) (buffer : List ℕ) where
-      pub sheet_short : {r : Wrote} → length buffer < size → answer_of r ≡ refused (whole short_buffer_number)
+      pub sheet_short : {r : Result Wrote Refusal} → length buffer < size → answer_of r ≡ refused (whole short_buffer_number)
           → Gives (laid_outcome run ls name_run name_ls saved buffer) buffer r
       sheet_short l a = gives_short run ls name_run name_ls (e ∙ ap length sheet_is) saved buffer l a
 
       pub sheet_written : {after : List ℕ} {r : ℕ} → size ≤ length buffer
           → PutsSheet (placed_sheet (codes_in name_run name_ls) ls all ribbon) buffer after r
-          → Gives (laid_outcome run ls name_run name_ls saved buffer) after (Sheet size saved)
+          → Gives (laid_outcome run ls name_run name_ls saved buffer) after (Ok (record { bytes = size; saved = saved }))
       sheet_written l p =
           gives_sheet run ls name_run name_ls (e ∙ ap length sheet_is) saved buffer l
           (p.left ∙ ap (λ (s : List ℕ). over s buffer) sheet_is)
 
 -- the whole
 module _ (run ls name_run name_ls buffer : List ℕ) where
-  writes : {after : List ℕ} {r : Wrote} → Gives (sheet_outcome run ls name_run name_ls buffer) after r
+  writes : {after : List ℕ} {r : Result Wrote Refusal} → Gives (sheet_outcome run ls name_run name_ls buffer) after r
       → WritesSheet run ls name_run name_ls buffer after r
   writes g =
       record {
@@ -122,7 +123,7 @@ module _ (run ls name_run name_ls buffer : List ℕ) where
       }
 
   -- a false list, or false names, are refused before anything
-  pub writes_false : {r : Wrote} → (list_ok_lem run ls && names_ok_lem (length ls) name_run name_ls) ≡ false
+  pub writes_false : {r : Result Wrote Refusal} → (list_ok_lem run ls && names_ok_lem (length ls) name_run name_ls) ≡ false
       → answer_of r ≡ refused (whole false_list_number) → WritesSheet run ls name_run name_ls buffer buffer r
   writes_false e a =
       writes (rw (if_tests run ls name_run name_ls buffer (ap not e) refl) (record { answer = a; left = refl }))
@@ -138,7 +139,7 @@ module _ (run ls name_run name_ls buffer : List ℕ) where
   fit_by false e ok names-ok =
       if_tests run ls name_run name_ls buffer (ap not (both ok names-ok)) e ∙ rw (laid_outcome, e)
 
-  pub writes_laid : {after : List ℕ} {r : Wrote} (saved : ℕ) → list_ok_lem run ls ≡ true
+  pub writes_laid : {after : List ℕ} {r : Result Wrote Refusal} (saved : ℕ) → list_ok_lem run ls ≡ true
       → names_ok_lem (length ls) name_run name_ls ≡ true → saved ≡ saved_by turned (codes_in run ls)
       → Gives (laid_outcome run ls name_run name_ls saved buffer) after r
       → WritesSheet run ls name_run name_ls buffer after r

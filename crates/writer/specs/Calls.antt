@@ -1,23 +1,23 @@
 -- What writing a sheet promises: its answer and what it leaves in lent memory are the defined ones, and what they mean.
-use Rattle.std.specs.Prelude.{◌≡◌, true, false, List, ℕ, ltb, length}
+use Rattle.std.specs.Prelude.{◌≡◌, true, false, List, ℕ, ltb, length, Result, Ok, Err}
 use Rattle.words.specs.Turn.{turned}
 use Rattle.lists.specs.Refusals.{whole, short_buffer_number}
 use Rattle.lists.specs.Answers.{refusal_of}
+use Rattle.lists.specs.declared.numbers.Refusal.{Refusal}
 use Rattle.lists.specs.Outcome.{outcome}
 use Rattle.lists.specs.Runs.{codes_in, over}
 use Rattle.lists.specs.Fit.{list_ok_lem, names_ok_lem}
 use Rattle.greedy.specs.Layout.{ribbon_for}
 use Rattle.sheets.specs.Answers.{SheetAnswer, refused, written, SheetOutcome, SheetsInto, sheet_for, sheet_outcome}
 use Rattle.writer.specs.declared.Wrote.{Wrote}
-use Rattle.writer.specs.declared.Wrote.TheVariants.{Refused, Sheet}
 
 -- The answer of a routine: document 01's number and row, or the values, for each case.
-abbrev pub answer_of : Wrote → SheetAnswer
-answer_of (Refused r) = refused (refusal_of r)
-answer_of (Sheet bytes saved) = written bytes saved
+abbrev pub answer_of : Result Wrote Refusal → SheetAnswer
+answer_of (Ok w) = written w.bytes w.saved
+answer_of (Err r) = refused (refusal_of r)
 
 -- What writing a sheet promises: the one outcome that is defined, and what it means.
-pub record WritesSheet (run ls name_run name_ls before after : List ℕ) (r : Wrote) : Type 0 where
+pub record WritesSheet (run ls name_run name_ls before after : List ℕ) (r : Result Wrote Refusal) : Type 0 where
   pub answer : answer_of r ≡ (sheet_outcome run ls name_run name_ls before).answer
   pub left : after ≡ (sheet_outcome run ls name_run name_ls before).after
   pub means : SheetsInto run ls name_run name_ls before (outcome (answer_of r) after)
@@ -37,6 +37,6 @@ laid_outcome run ls name_run name_ls saved buffer =
     ]
 
 -- The routine answers as an outcome says, and leaves in lent memory what it says.
-pub record Gives (o : SheetOutcome) (after : List ℕ) (r : Wrote) : Type 0 where
+pub record Gives (o : SheetOutcome) (after : List ℕ) (r : Result Wrote Refusal) : Type 0 where
   pub answer : answer_of r ≡ o.answer
   pub left : after ≡ o.after

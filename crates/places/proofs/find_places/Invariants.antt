@@ -1,11 +1,7 @@
--- `find_places`. The loop's invariant: the codes so far have places, and the next code starts where they end.
-use Prim.Native.Nat.{◌-◌}
-use lib.ListN.{length}
+-- `find_places`: the codes passed have places, and those left are still to come.
+use Rattle.lists.specs.Handed.{words_of}
 use Rattle.places.proofs.Finding.{Finding}
 use Rattle.places.proofs.find_places.Given as goal
 
 abbrev pub invariant-loop-i : goal.invariant-loop-i
-invariant-loop-i l = Finding l.bands l.lengths l.ribbon l.records l.at l.i
-
-abbrev pub decreases-loop-i : goal.decreases-loop-i
-decreases-loop-i l = length l.lengths - l.i
+invariant-loop-i l = Finding l.bands l.lengths l.ribbon l.records l.i-iterator.count (words_of l.i-iterator.iter)

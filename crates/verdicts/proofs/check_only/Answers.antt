@@ -3,4 +3,4 @@ use Rattle.verdicts.proofs.Calls.{checks_alone}
 use Rattle.verdicts.proofs.check_only.Goals as goal
 
 pub returns : goal.returns
-returns c = checks_alone c.check_places-findings.ensures
+returns c = checks_alone c.check_places.ensures

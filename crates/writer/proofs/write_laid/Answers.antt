@@ -10,17 +10,16 @@ pub show_codes-shown-requires : goal.show_codes-shown-requires
 show_codes-shown-requires c =
     (c.requires.list_fits, ribbon_short c.requires, each_placed c.requires c.find_places-sought.ensures)
 
-pub sheet_size-size-requires : goal.sheet_size-size-requires
-sheet_size-size-requires c = there c.requires c.show_codes-shown.ensures
+pub invariant_of-rows : goal.invariant_of-rows
+invariant_of-rows c = record { there = there c.requires c.show_codes-shown.ensures }
 
 pub returns-then-out-size : goal.returns-then-out-size
 returns-then-out-size c =
     sheet_short c.requires c.show_codes-shown.ensures c.sheet_size-size.ensures c.args.saved c.args.out.now
-    c.if-out-size.true c.refused.ensures
+    c.if-out-size.true (rw c.into.ensures)
 
 pub put_sheet-requires : goal.put_sheet-requires
-put_sheet-requires c =
-    (there c.requires c.show_codes-shown.ensures, omega (arith, c.sheet_size-size.ensures, c.if-out-size.false))
+put_sheet-requires c = omega (arith, c.sheet_size-size.ensures, c.if-out-size.false)
 
 pub overflow_cast-result : goal.overflow_cast-result
 overflow_cast-result c = omega (arith, size_short c.requires c.show_codes-shown.ensures c.sheet_size-size.ensures)

@@ -9,25 +9,25 @@ pub returns-then-not-list_ok : goal.returns-then-not-list_ok
 returns-then-not-list_ok c =
     let a = c.args in
     let e = sym c.list_ok.ensures ∙ c.if-not-list_ok.true in
-    writes_false a.bands.now a.lengths.now a.names.now a.sizes.now a.out.now (rw e) c.refused.ensures
+    writes_false a.bands.now a.lengths.now a.names.now a.sizes.now a.out.now (rw e) (rw c.into.ensures)
 
 pub returns-then-not-names_ok : goal.returns-then-not-names_ok
 returns-then-not-names_ok c =
     let a = c.args in
     let ok = sym c.list_ok.ensures ∙ c.if-not-list_ok.false in
     let e = sym c.names_ok.ensures ∙ c.if-not-names_ok.true in
-    writes_false a.bands.now a.lengths.now a.names.now a.sizes.now a.out.now (rw (ok, e)) c.refused-then-not-names_ok.ensures
+    writes_false a.bands.now a.lengths.now a.names.now a.sizes.now a.out.now (rw (ok, e)) (rw c.into-then-not-names_ok.ensures)
 
-pub returns-in-Refused : goal.returns-in-Refused
-returns-in-Refused c =
+pub returns-in_err-laid : goal.returns-in_err-laid
+returns-in_err-laid c =
     let a = c.args in
     let ok = sym c.list_ok.ensures ∙ c.if-not-list_ok.false in
-    absurd (never_refused a.bands.now a.lengths.now _ ok (search rules) c.in-Refused.ensures)
+    absurd (never_refused a.bands.now a.lengths.now _ ok (search rules) c.in_err-laid.ensures)
 
-pub returns-in-Ribbon : goal.returns-in-Ribbon
-returns-in-Ribbon c =
+pub returns : goal.returns
+returns c =
     let a = c.args in
     let ok = sym c.list_ok.ensures ∙ c.if-not-list_ok.false in
     let names-ok = sym c.names_ok.ensures ∙ c.if-not-names_ok.false in
-    writes_laid a.bands.now a.lengths.now a.names.now a.sizes.now a.out.now _ ok names-ok (saved_is c.in-Ribbon.ensures)
+    writes_laid a.bands.now a.lengths.now a.names.now a.sizes.now a.out.now _ ok names-ok (saved_is c.in_ok-laid.ensures)
     c.write_laid.ensures

@@ -7,10 +7,11 @@ use Rattle.windows.specs.Windows.{Windowed}
 use Rattle.counting.proofs.Counting.{Counting}
 use Rattle.counting.proofs.counts.count_places.Given as goal
 
-abbrev pub invariant-loop-end : goal.invariant-loop-end
-invariant-loop-end l =
-    (l.end ≤ length l.s) × (l.count ≤ l.end) × Counting w.turned l.c l.s l.w.start l.end l.given l.turned l.count
+abbrev pub invariant-loop-pass : goal.invariant-loop-pass
+invariant-loop-pass l =
+    (l.pass.end ≤ length l.s)
+    × Counting w.turned l.c l.s l.w.start l.pass.end l.pass.given l.pass.turned l.count
     × Windowed l.s (length l.c) l.w.start l.w.sum
 
-abbrev pub decreases-loop-end : goal.decreases-loop-end
-decreases-loop-end l = length l.s - l.end
+abbrev pub decreases-loop-pass : goal.decreases-loop-pass
+decreases-loop-pass l = length l.s - l.pass.end

@@ -1,18 +1,16 @@
--- `head_fault` meets its contract: each answer is the definition's by the tests that led to it.
-use mathlib.Core.Path.{refl, sym, ◌∙◌}
-use Rattle.entries.proofs.Checking.{head_fault_by}
+-- `head_fault` meets its contract: the heading is another by the first or by the second field.
+use Rattle.std.specs.Cmp.Lexicographic.{other_text}
+use Rattle.grammar.specs.Files.{word_name, word_code}
+use Rattle.entries.proofs.Checking.{other_name, other_code}
 use Rattle.entries.proofs.checks.head_fault.Goals as goal
-
-pub returns-then-not-same : goal.returns-then-not-same
-returns-then-not-same c =
-    head_fault_by c.args.name.now c.args.code.now (sym c.same.ensures ∙ c.if-not-same.true) refl
-
-pub returns-then-not-same-2 : goal.returns-then-not-same-2
-returns-then-not-same-2 c =
-    head_fault_by c.args.name.now c.args.code.now (sym c.same.ensures ∙ c.if-not-same.false)
-    (sym c.same-2.ensures ∙ c.if-not-same-2.true)
+use Rattle.entries.proofs.checks.head_fault.Goals.{else-eq-via-then-eq+else-eq-2, else-eq-via-else-eq}
 
 pub returns : goal.returns
 returns c =
-    head_fault_by c.args.name.now c.args.code.now (sym c.same.ensures ∙ c.if-not-same.false)
-    (sym c.same-2.ensures ∙ c.if-not-same-2.false)
+    let n = c.args.name.now in
+    let k = c.args.code.now in
+    elim c.else-eq.branch [
+      | else-eq-via-then-eq+else-eq-2 w ↦
+          other_code n k (other_text k word_code (rw w.as_slice-then-eq.ensures at w.if-eq-2.ensures))
+      | else-eq-via-else-eq w ↦ other_name n k (other_text n word_name (rw c.as_slice.ensures at w.if-eq.ensures))
+    ]

@@ -1,29 +1,20 @@
--- `lowest_following`: the places on side 1 have the faces that begin with a's last o bands, and all of these.
-use native.Mathlib.Omega.{arith}
-use Rattle.sorting.proofs.Rising.{narrow_none, narrow_on, narrow_order, seeks}
-use Rattle.faces.proofs.Picking.{follows_none, follows_lowest}
+-- `lowest_following`: a face that has no o bands shares none, and else those that begin with its last o bands are gone through.
+use Rattle.std.proofs.Common.{arith}
+use Rattle.parts.proofs.Faces.{face_size}
+use Rattle.faces.proofs.Ranges.{follows_none, follows_lowest}
 use Rattle.faces.proofs.following.lowest_following.Goals as goal
 
-pub returns-then-sizes-a : goal.returns-then-sizes-a
-returns-then-sizes-a c = follows_none c.requires.0 c.requires.3 c.if-sizes-a.true
-
-pub first_place-low-requires : goal.first_place-low-requires
-first_place-low-requires c = (seeks c.requires.0 c.requires.1 (omega arith) c.requires.3 c.if-sizes-a.false, narrow_none)
-
-pub range_end-high-requires : goal.range_end-high-requires
-range_end-high-requires c = (seeks c.requires.0 c.requires.1 (omega arith) c.requires.3 c.if-sizes-a.false, narrow_on c.first_place-low.ensures)
+pub returns-then-len-o : goal.returns-then-len-o
+returns-then-len-o c =
+    let size = face_size c.face-face.result (rw c.parts.ensures at c.face-face.ensures.same) in
+    follows_none _ c.args.a c.args.o (omega arith)
 
 pub lowest_among-requires : goal.lowest_among-requires
-lowest_among-requires c =
-    let low = c.first_place-low.ensures in
-    let high = c.range_end-high.ensures in (
-      c.requires.2.room,
-      narrow_order low high,
-      omega (arith, high.bound, c.requires.1.room),
-      (λ i l. omega (arith, c.requires.1.within i (omega (arith, high.bound)), c.requires.0.few)),
-    )
+lowest_among-requires c = λ i l. omega (arith, c.beginning_with.ensures.within i l, c.requires.0.codes)
 
 pub returns : goal.returns
 returns c =
-    follows_lowest c.requires.0 c.requires.3 c.if-sizes-a.false c.requires.1 c.first_place-low.ensures
-    c.range_end-high.ensures c.mirror_of.ensures.0 c.lowest_among.ensures
+    let face = rw c.parts.ensures at c.face-face.ensures.same in
+    let size = face_size c.face-face.result face in
+    follows_lowest c.args.a c.args.o (omega arith) (rw face at c.beginning_with.ensures) _ _ c.mirror_of.ensures.0 _
+    c.lowest_among.ensures

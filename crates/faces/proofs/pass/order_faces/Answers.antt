@@ -1,15 +1,19 @@
--- `pass::order_faces`: the pass leaves the joins of the layout, and the order is read from them.
-use mathlib.Core.Path.{refl}
+-- `pass::order_faces`: the pass begins with no joins.
+use Rattle.std.proofs.Common.{length, refl, arith}
+use Rattle.words.specs.Turn.{turned}
+use Rattle.joins.proofs.Order.{order_short}
 use Rattle.joins.proofs.Following.{no_joins}
-use borrow.Author.Rules.{rules}
+use Rattle.greedy.specs.Reading.{shared}
 use Rattle.faces.proofs.pass.order_faces.Goals as goal
 
 pub run_pass-requires : goal.run_pass-requires
 run_pass-requires c =
-    let p = c.requires in
-    (p.0, c.sort_faces.ensures, no_joins refl p.0.few (search rules))
+    let few = c.len-n.ensures.few in
+    rw c.of.ensures (few, no_joins refl few.few (omega arith))
 
-pub returns : goal.returns
-returns c =
-    let l = c.run_pass.ensures in
-    c.write_order.ensures.wrote _ l.records
+pub returns-clause-few : goal.returns-clause-few
+returns-clause-few c =
+    let few = c.len-n.ensures.few in
+    let read = rw c.len-n.ensures.count at c.write_order.ensures in
+    let wrote = read.wrote _ (rw c.of.ensures at c.run_pass.ensures).records in
+    omega (arith, wrote.count, order_short (length c.args.parts.now) (shared turned c.args.parts.now), few.few)

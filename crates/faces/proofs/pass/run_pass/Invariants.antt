@@ -1,13 +1,10 @@
--- `pass::run_pass` meets its contract: no join is allowed any more whose overlap is not below `left`.
-use mathlib.Core.Path.{◌≡◌}
-use Prim.Native.Nat.{◌*◌}
-use lib.ListN.{length}
+-- `pass::run_pass`. The invariant: no join is allowed any more whose overlap is not below o.
+use Rattle.std.proofs.Common.{◌*◌, length}
+use Rattle.words.specs.Turn.{turned}
 use Rattle.joins.specs.Pass.{PassedRow}
-use Rattle.parts.specs.Parts.{part_shared}
+use Rattle.joining.specs.Joins.{row_of}
+use Rattle.greedy.specs.Reading.{shared}
 use Rattle.faces.proofs.pass.run_pass.Given as goal
 
-abbrev pub invariant-loop-left : goal.invariant-loop-left
-invariant-loop-left l = (length l.after ≡ length l.initial.after) × PassedRow l.n (part_shared l.bands l.starts l.sizes l.n) l.after l.left (2 * l.n)
-
-abbrev pub decreases-loop-left : goal.decreases-loop-left
-decreases-loop-left l = l.left
+abbrev pub invariant-loop-o : goal.invariant-loop-o
+invariant-loop-o l = PassedRow (length l.sorted) (shared turned l.sorted) (row_of l.after) l.o (2 * length l.sorted)

@@ -1,19 +1,17 @@
--- `numbers::put_decimal` meets its contract, by the number: its tenth is smaller, and the last digit is stored behind the
--- digits of the tenth.
-use Rattle.std.proofs.Common.{◌<◌, ◌≤◌, length, arith}
-use Rattle.fields.proofs.Digits.{one_digit_longer, last_written}
+-- `numbers::put_decimal` meets its contract, by the number: the last digit stands behind the digits of the tenth.
+use Rattle.std.proofs.Common.{arith}
+use Rattle.sheets.proofs.Decimal.{decimal_more}
+use Rattle.fields.proofs.Digits.{one_digit_longer}
+use Rattle.fields.proofs.Pieces.{put_as, both_put}
 use Rattle.fields.proofs.numbers.+put_decimal.Goals as goal
 
-pub put_decimal-last-requires : goal.put_decimal-last-requires
-put_decimal-last-requires t c = (omega arith, omega (arith, one_digit_longer c.if-n-lt10.false))
+pub put_decimal-requires : goal.put_decimal-requires
+put_decimal-requires g t c κs within = (omega arith, (within, omega (arith, one_digit_longer c.if-n-lt10.false, c.requires)))
 
-pub bounds-row-last : goal.bounds-row-last
-bounds-row-last t c =
-    omega (arith, one_digit_longer c.if-n-lt10.false, c.put_decimal-last.ensures.end_is, c.put_decimal-last.auto.row, c.requires)
+pub put-requires-2 : goal.put-requires-2
+put-requires-2 g t c = omega (arith, one_digit_longer c.if-n-lt10.false, c.requires, c.put_decimal.ensures.taken_is, c.put_decimal.ensures.most_is)
 
 pub returns : goal.returns
-returns t c =
-    let fits : c.args.at ≤ length c.args.row.now = omega (arith, c.requires) in
-    let here : c.put_decimal-last.result < length c.put_decimal-last.new.row =
-    omega (arith, one_digit_longer c.if-n-lt10.false, c.put_decimal-last.ensures.end_is, c.put_decimal-last.auto.row, c.requires) in
-    last_written c.if-n-lt10.false fits c.put_decimal-last.ensures here
+returns g t c =
+    put_as (decimal_more c.if-n-lt10.false)
+    (both_put g.S.Sink.laws (omega (arith, one_digit_longer c.if-n-lt10.false, c.requires)) c.put_decimal.ensures c.put-2.ensures)

@@ -1,4 +1,5 @@
+-- The tenth of a number is smaller.
 use Rattle.fields.proofs.numbers.+put_decimal.Given as goal
 
 abbrev pub decreases-put_decimal : goal.decreases-put_decimal
-decreases-put_decimal l = l.n
+decreases-put_decimal g l = l.n

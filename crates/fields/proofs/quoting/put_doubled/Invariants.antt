@@ -1,12 +1,8 @@
--- `quoting::put_doubled` meets its contract: the invariant has the bytes so far written and those behind them still to come.
-use Prim.Native.Nat.{◌-◌}
-use lib.ListN.{length, drop}
-use Rattle.words.proofs.Partly.{Partly}
+-- The bytes so far are put, and those behind them still to come.
+use Rattle.std.proofs.Common.{drop}
 use Rattle.grammar.specs.Quoting.{doubled_quotes}
+use Rattle.fields.proofs.Pieces.{Partly}
 use Rattle.fields.proofs.quoting.put_doubled.Given as goal
 
-abbrev pub invariant-loop-i : goal.invariant-loop-i
-invariant-loop-i l = Partly l.initial.out l.at (doubled_quotes l.name) l.out l.end (doubled_quotes (drop l.i l.name))
-
-abbrev pub decreases-loop-i : goal.decreases-loop-i
-decreases-loop-i l = length l.name - l.i
+abbrev pub invariant-loop-b : goal.invariant-loop-b
+invariant-loop-b g l = Partly g.S.Sink.kind l.initial.sink (doubled_quotes l.name) l.sink (doubled_quotes (drop l.b-index l.name))

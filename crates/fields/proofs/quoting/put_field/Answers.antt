@@ -1,17 +1,37 @@
 -- `quoting::put_field` meets its contract: the name as it is, or a quote, the name with its quotes doubled, and a quote.
-use Rattle.std.proofs.Common.{[], ◌∷◌, ◌++◌, refl, sym, ◌∙◌}
-use Rattle.words.proofs.Partly.{none_yet, and_then, all_done}
+use Rattle.std.proofs.Common.{◌≡◌, ℕ, List, [], ◌∷◌, ◌++◌, true, refl, sym, ◌∙◌}
 use Rattle.grammar.specs.Files.{quote}
-use Rattle.grammar.specs.Quoting.{doubled_quotes, field_text}
-use Rattle.fields.proofs.Quoted.{quoted}
+use Rattle.grammar.specs.Quoting.{needs_quotes_lem, doubled_quotes, field_text}
+use Rattle.fields.specs.Sinks.{Kind, SinkLaws, Fits, Puts}
+use Rattle.fields.proofs.Quoted.{marked_some, quoted}
+use Rattle.fields.proofs.Pieces.{Partly, none_yet, room_for, and_then, all_done}
 use Rattle.fields.proofs.quoting.put_field.Goals as goal
 
--- nothing written, the opening quote, the name behind it, and the closing quote
-pub returns : goal.returns
-returns c =
+-- the opening quote is put, and the name behind it: what is still to come
+module _ {S : Type 0} {k : Kind S} (laws : SinkLaws k) (name : List ℕ) {s t : S} (e : needs_quotes_lem name ≡ true)
+    (h : Fits k s (field_text name)) (p : Puts k s (quote ∷ []) t) where
+  opened : Partly k s (field_text name) t (doubled_quotes name ++ (quote ∷ []))
+  opened = and_then laws (none_yet laws h (quoted name e)) (quote ∷ []) (doubled_quotes name ++ (quote ∷ [])) refl p
+
+  inside : {u : S} → Puts k t (doubled_quotes name) u → Partly k s (field_text name) u (quote ∷ [])
+  inside q = and_then laws opened (doubled_quotes name) (quote ∷ []) refl q
+
+pub put_doubled-requires : goal.put_doubled-requires
+put_doubled-requires g c =
     let name = c.args.name.now in
-    let begun = none_yet c.args.out.now c.args.at (field_text name) c.requires
-    (quoted name (sym c.needs_quotes.ensures ∙ c.if-not-needs_quotes.false)) in
-    let opened = and_then begun (quote ∷ []) (doubled_quotes name ++ (quote ∷ [])) refl c.put_word-end.ensures in
-    let inside = and_then opened (doubled_quotes name) (quote ∷ []) refl c.put_doubled-end.ensures in
-    all_done (and_then inside (quote ∷ []) [] refl c.put_word-2.ensures) refl
+    let needs = marked_some name ∙ sym c.needs_quotes.ensures ∙ c.if-not-needs_quotes.false in
+    room_for g.S.Sink.laws (opened g.S.Sink.laws name needs c.requires c.put-2.ensures) (doubled_quotes name) (quote ∷ []) refl
+
+pub put-requires-3 : goal.put-requires-3
+put-requires-3 g c =
+    let name = c.args.name.now in
+    let needs = marked_some name ∙ sym c.needs_quotes.ensures ∙ c.if-not-needs_quotes.false in
+    let p = inside g.S.Sink.laws name needs c.requires c.put-2.ensures c.put_doubled.ensures in
+    room_for g.S.Sink.laws p (quote ∷ []) [] refl
+
+pub returns : goal.returns
+returns g c =
+    let name = c.args.name.now in
+    let needs = marked_some name ∙ sym c.needs_quotes.ensures ∙ c.if-not-needs_quotes.false in
+    let p = inside g.S.Sink.laws name needs c.requires c.put-2.ensures c.put_doubled.ensures in
+    all_done g.S.Sink.laws (and_then g.S.Sink.laws p (quote ∷ []) [] refl c.put-3.ensures) refl

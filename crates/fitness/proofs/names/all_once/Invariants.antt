@@ -1,12 +1,8 @@
--- `all_once` passes the names: each is used once exactly when those not yet passed are, and none passed is behind itself.
-use Prim.Native.Nat.{◌-◌}
-use lib.ListN.{length}
+-- What the loop of `all_once` keeps: the names are used once exactly if those not yet given are.
+use Rattle.std.proofs.Common.{◌≡◌}
+use Rattle.lists.specs.Handed.{words_of}
 use Rattle.lists.specs.Fit.{all_once_lem}
-use Rattle.fitness.proofs.Passing.{Passing}
 use Rattle.fitness.proofs.names.all_once.Given as goal
 
-abbrev pub invariant-loop-k : goal.invariant-loop-k
-invariant-loop-k l = Passing all_once_lem l.names l.sizes l.from l.k
-
-abbrev pub decreases-loop-k : goal.decreases-loop-k
-decreases-loop-k l = length l.sizes - l.k
+abbrev pub invariant-loop-name : goal.invariant-loop-name
+invariant-loop-name l = all_once_lem (words_of l.fn.names) ≡ all_once_lem (words_of l.names)

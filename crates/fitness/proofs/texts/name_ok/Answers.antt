@@ -1,12 +1,13 @@
--- `name_ok` asks for the length, then for each byte, as the rule does.
-use borrow.Author.Tests.{le-leb, lt-leb}
+-- `name_ok` meets its contract: the length is in range, and `all` answers as the test of the rules does.
+use Rattle.std.proofs.Common.{refl, rules, arith, length}
+use Rattle.std.proofs.lemmas.List.Recursion.{and_is}
+use borrow.Author.Tests.{le-leb}
+use Rattle.lists.specs.Fit.{all, plain}
 use Rattle.fitness.proofs.texts.name_ok.Goals as goal
 
-pub returns-then-n-lt1 : goal.returns-then-n-lt1
-returns-then-n-lt1 c = simp (lt-leb _ _ c.if-n-lt1.true)
-
-pub returns-then-n-gt24 : goal.returns-then-n-gt24
-returns-then-n-gt24 c = simp (le-leb _ _ c.if-n-lt1.false, lt-leb _ _ c.if-n-gt24.true)
-
-pub returns : goal.returns
-returns c = simp (le-leb _ _ c.if-n-lt1.false, le-leb _ _ c.if-n-gt24.false, c.all_between.ensures)
+pub returns-then-contains : goal.returns-then-contains
+returns-then-contains c =
+    let n = c.args.n.now in
+    let some = le-leb 1 (length n) (grind arith) in
+    let few = le-leb (length n) 24 (grind arith) in
+    rw (some, few) (and_is (all plain) plain refl (λ _ _. refl) n 0 _ (search rules) (search rules))

@@ -1,10 +1,9 @@
--- `ends::end_from` walks to the end of a piece. The invariant: from where the walk stands, with the steps left, the
--- definition comes to the end that it comes to from f.
+-- `ends::end_from`. The invariant: from where the walk stands, with the steps left, the definition comes to the end that it
+-- comes to from f.
+use Rattle.std.proofs.Common.{◌-◌, ◌*◌}
 use Rattle.joins.proofs.Walks.{Walk}
+use Rattle.joining.specs.Joins.{row_of}
 use Rattle.joining.proofs.ends.end_from.Given as goal
 
-abbrev pub invariant-loop-left : goal.invariant-loop-left
-invariant-loop-left l = Walk l.n l.after l.f l.at l.left
-
-abbrev pub decreases-loop-left : goal.decreases-loop-left
-decreases-loop-left l = l.left
+abbrev pub invariant-loop-passed : goal.invariant-loop-passed
+invariant-loop-passed l = Walk l.n (row_of l.after) l.f l.at (2 * l.n - l._passed)

@@ -1,33 +1,22 @@
--- `writing::put_way` meets its contract. The loop's invariant: the row is the one at entry with the first j bands copied in.
-use borrow.Author.Rules.{rules}
-use native.Mathlib.Omega.{arith}
-use mathlib.Core.Path.{sym, ◌∙◌}
-use lib.ListN.{drop, length-drop}
-use lib.Seq.{paste-zero, get_or-drop}
-use Rattle.words.specs.Ways.{way_of}
-use Rattle.words.proofs.Ways.{way_size}
-use Rattle.words.proofs.Written.{copy_more, copy_written}
+-- `put_way`: the part of the row is the form past its first bands, and the rest of the row stays.
+use Rattle.std.proofs.Common.{◌≡◌, ℕ, ◌-◌, length, drop, length-take, length-drop, ◌∙◌, sym, arith}
+use Rattle.std.proofs.lemmas.List.{ext_get_or}
+use Rattle.std.proofs.lemmas.Slice.{put_mid-paste}
+use lib.Seq.{get_or-drop}
+use Rattle.matching.proofs.Sizes.{form_size}
+use Rattle.words.proofs.Written.{copy_written}
+use Rattle.matching.specs.Forms.{bands_of}
 use Rattle.matching.proofs.writing.put_way.Goals as goal
-
-pub loop-j-init : goal.loop-j-init
-loop-j-init c =
-    let a = c.args in
-    (search rules, search rules, paste-zero a.row.now a.at (drop a.skip (way_of a.turned a.c.now)))
-
-pub loop-j-preserved : goal.loop-j-preserved
-loop-j-preserved c =
-    let a = c.args in
-    let l = c.loop-j in
-    let w = way_of a.turned a.c.now in (
-      search rules,
-      search rules,
-      copy_more a.row.now a.at (drop a.skip (way_of a.turned a.c.now)) l.invariant.2
-          (c.band_at.ensures ∙ sym (get_or-drop a.skip w l.j 0)) (search rules)
-          (omega (arith, length-drop a.skip w, way_size a.turned a.c.now)),
-    )
 
 pub returns : goal.returns
 returns c =
-    let a = c.args in
-    copy_written a.row.now a.at (drop a.skip (way_of a.turned a.c.now)) c.loop-j.invariant.2
-    (omega (arith, length-drop a.skip (way_of a.turned a.c.now), way_size a.turned a.c.now))
+    let x = c.args in
+    let f = bands_of x.form in
+    let n : ℕ = c.len.result - x.skip in
+    let size : n ≡ length (drop x.skip f) =
+    omega (arith, length-drop x.skip f, form_size x.form) in
+    let room : length c.loop-j.band-items ≡ n = omega (arith, length-take {A = ℕ}, length-drop {A = ℕ}) in
+    let part : c.loop-j.band-items ≡ drop x.skip f =
+    ext_get_or 0 _ _ (room ∙ size) (λ i l. c.loop-j.invariant i (omega arith) ∙ sym (get_or-drop x.skip f i 0)) in
+    copy_written x.row.now x.at (drop x.skip f)
+    (put_mid-paste x.at _ x.row.now c.loop-j.band-items (drop x.skip f) n part (omega arith) size) size

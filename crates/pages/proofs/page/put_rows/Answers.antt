@@ -1,58 +1,20 @@
--- `page::put_rows` meets its contract: each turn writes the next row behind the first ones, and behind the last turn all are
--- written.
-use Rattle.std.proofs.Common.{◌≡◌, ◌+◌, ◌≤◌, length, sym, ap, subst, ◌∙◌, arith}
-use Rattle.words.specs.Written.{Written}
-use Rattle.lists.specs.Runs.{codes_in}
-use Rattle.sheet_rows.specs.Placed.{nth_row, placed_rows}
-use Rattle.pages.specs.declared.page.Writer.{Writer}
-use Rattle.pages.specs.Filled.{filled}
-use Rattle.pages.proofs.Filling.{put_written, put_at_length, filled_twice}
-use Rattle.pages.proofs.RowByRow.{first, first_next, first_all, first_fit, next_fits}
+-- `page::put_rows` meets its contract: each turn puts the next row behind those before it.
+use Rattle.sheet_rows.specs.Sheets.{nth}
+use Rattle.fields.proofs.Pieces.{room_for, and_then, all_done}
+use Rattle.pages.proofs.RowByRow.{none_left, next}
 use Rattle.pages.proofs.page.put_rows.Goals as goal
 
-pub row-page-requires : goal.row-page-requires
-row-page-requires c =
-    let a = c.args in
-    let ls = a.lengths.now in
+pub put_nth-requires-clause-room : goal.put_nth-requires-clause-room
+put_nth-requires-clause-room g c =
+    let r = c.args.rows.now in
     let i = c.loop-i.i in
-    let there = c.requires.0 in
-    let room = c.requires.1 in
-    let row = nth_row a.names.now a.sizes.now ls a.shown a.ribbon.now i in
-    let so_far = first a.names.now a.sizes.now ls a.shown a.ribbon.now i in
-    let before =
-    first_fit a.names.now a.sizes.now ls a.shown a.ribbon.now there a.mark (length a.out.now) i room c.loop-i.invariant.0 in
-    let next =
-    next_fits a.names.now a.sizes.now ls a.shown a.ribbon.now there a.mark (length a.out.now) i room c.loop-i-test.true in (
-      there,
-      c.loop-i-test.true,
-      subst (λ (w : Writer). w.mark + length row ≤ length w.out.now) (sym c.loop-i.invariant.1)
-          (omega (arith, next, put_at_length a.out.now so_far a.mark before)),
-    )
+    room_for g.S.Sink.laws c.loop-i.invariant (nth r i) _ (next r i c.loop-i-test.true)
 
 pub loop-i-preserved : goal.loop-i-preserved
-loop-i-preserved c =
-    let a = c.args in
-    let ls = a.lengths.now in
+loop-i-preserved g c =
+    let r = c.args.rows.now in
     let i = c.loop-i.i in
-    let begun : Writer = record { out = a.out; mark = a.mark } in
-    let row = nth_row a.names.now a.sizes.now ls a.shown a.ribbon.now i in
-    let so_far = first a.names.now a.sizes.now ls a.shown a.ribbon.now i in (
-      omega (arith, c.loop-i-test.true),
-      c.row-page.ensures ∙ ap (λ (w : Writer). filled w row) c.loop-i.invariant.1
-          ∙ filled_twice begun so_far row (omega (arith, c.requires.1))
-          ∙ ap (filled begun) (first_next a.names.now a.sizes.now ls a.shown a.ribbon.now i),
-    )
+    and_then g.S.Sink.laws c.loop-i.invariant (nth r i) _ (next r i c.loop-i-test.true) c.put_nth.ensures
 
-pub returns-clause-written : goal.returns-clause-written
-returns-clause-written c =
-    let a = c.args in
-    let ls = a.lengths.now in
-    let i = c.loop-i.i in
-    let begun : Writer = record { out = a.out; mark = a.mark } in
-    let rows = placed_rows (codes_in a.names.now a.sizes.now) ls a.shown a.ribbon.now in
-    let end : i ≡ length ls = omega (arith, c.loop-i.invariant.0, c.loop-i-test.false) in
-    let all : first a.names.now a.sizes.now ls a.shown a.ribbon.now i ≡ rows =
-    ap (first a.names.now a.sizes.now ls a.shown a.ribbon.now) end
-    ∙ sym (first_all a.names.now a.sizes.now ls a.shown a.ribbon.now c.requires.0) in
-    subst (λ (w : Writer). Written a.out.now a.mark rows w.out.now w.mark) (sym (c.loop-i.invariant.1 ∙ ap (filled begun) all))
-    (put_written a.out.now a.mark rows)
+pub returns : goal.returns
+returns g c = all_done g.S.Sink.laws c.loop-i.invariant (none_left c.args.rows.now c.loop-i.i c.loop-i-test.false)

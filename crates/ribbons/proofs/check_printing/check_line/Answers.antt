@@ -1,24 +1,21 @@
 -- `check_printing::check_line`: each answer's line is written.
-use mathlib.Core.Path.{refl}
+use Rattle.std.proofs.Common.{refl, rules, w32}
+use mir.Val.{SFits}
 use Rattle.ribbons.proofs.CheckText.{check_written, held_checked}
 use Rattle.ribbons.proofs.check_printing.check_line.Goals as goal
 
-pub returns-in-Refused : goal.returns-in-Refused
-returns-in-Refused c =
-    let a = c.args in
-    check_written a.bands.now a.lengths.now a.ribbon.now c.requires.0 c.in-Refused.ensures refl
-    c.refused_line.ensures
+pub returns-in-Ok-Missing : goal.returns-in-Ok-Missing
+returns-in-Ok-Missing c =
+    let p = rw c.in-Ok-Missing.field-0-is at c.in-Ok-Missing.ensures in
+    rw (← c.codes-codes.ensures.words) (check_written _ _ _ c.codes-codes.ensures.fit p refl c.missing_line.ensures)
 
-pub returns-in-Missing : goal.returns-in-Missing
-returns-in-Missing c =
-    let a = c.args in
-    check_written a.bands.now a.lengths.now a.ribbon.now c.requires.0 c.in-Missing.ensures refl
-    c.missing_line.ensures
+pub returns-in-Ok-Held : goal.returns-in-Ok-Held
+returns-in-Ok-Held c =
+    let f : SFits w32 c.in-Ok-Held.d = search rules in
+    let p = rw c.in-Ok-Held.field-0-is at c.in-Ok-Held.ensures in
+    rw (← c.codes-codes.ensures.words) (held_checked _ _ _ c.codes-codes.ensures.fit c.in-Ok-Held.d f p refl c.held_line.ensures)
 
-pub returns-in-Held : goal.returns-in-Held
-returns-in-Held c =
-    let a = c.args in
-    -- the type of the answer says that the difference fits
-    let u = rw c.in-Held.is at c.check_only-checked.type_inv in
-    held_checked a.bands.now a.lengths.now a.ribbon.now c.requires.0 c.in-Held.d (record { sfits = u.1.1.1.1.0.1 }) c.in-Held.ensures refl
-    c.held_line.ensures
+pub returns-in-Err : goal.returns-in-Err
+returns-in-Err c =
+    rw (← c.codes-codes.ensures.words)
+    (check_written _ _ _ c.codes-codes.ensures.fit c.in-Err.ensures refl c.refused_line.ensures)

@@ -1,16 +1,14 @@
--- `sheet_printing::sheet_text`: a fit list with names is not refused, and what is written is its sheet.
-use mathlib.Core.Path.{refl}
-use Rattle.ribbons.proofs.SheetText.{sheet_never_refused, sheet_written}
+-- `sheet_printing::sheet_text`: a list that was read is not refused, and what is written is its sheet.
+use Rattle.ribbons.proofs.SheetText.{sheet_accepted, sheet_written}
 use Rattle.ribbons.proofs.sheet_printing.sheet_text.Goals as goal
 
-pub returns-in-Refused : goal.returns-in-Refused
-returns-in-Refused c =
-    let a = c.args in
-    absurd (sheet_never_refused a.bands.now a.lengths.now a.names.now a.sizes.now a.out.now c.in-Refused.ensures
-    c.requires.0 c.requires.1 c.requires.2 refl)
+pub unwrap-wrote-requires : goal.unwrap-wrote-requires
+unwrap-wrote-requires c =
+    sheet_accepted _ _ _ _ _ c.write_sheet.ensures c.codes-codes.ensures.fit
+    (rw c.codes-codes.ensures.count c.names-names.ensures.fit) c.requires
 
-pub returns-in-Sheet : goal.returns-in-Sheet
-returns-in-Sheet c =
-    let a = c.args in
-    sheet_written a.bands.now a.lengths.now a.names.now a.sizes.now a.out.now c.in-Sheet.ensures
-    c.requires.0 c.requires.1 c.requires.2 refl
+pub returns : goal.returns
+returns c =
+    rw (← c.codes-codes.ensures.words, ← c.names-names.ensures.words)
+    (sheet_written _ _ _ _ _ c.write_sheet.ensures c.codes-codes.ensures.fit
+    (rw c.codes-codes.ensures.count c.names-names.ensures.fit) c.requires c.unwrap-wrote.ensures)

@@ -13,18 +13,18 @@ count_from-places-requires c =
     let a = c.args in
     let r = c.requires in
     let on = lies (take a.size (drop a.at a.bands.now)) a.ribbon.now a.way r.place in
-    (r.in_run, r.small, r.some, r.few, omega (arith, on, c.start_of-start.ensures))
+    (r.in_run, r.small, r.some, r.few, omega (arith, on, c.start-start.ensures))
 
-pub overflow_cast-result : goal.overflow_cast-result
-overflow_cast-result c =
+pub overflow_cast-shown : goal.overflow_cast-shown
+overflow_cast-shown c =
     let a = c.args in
     let r = c.requires in
     let some : 1 ≤ length (take a.size (drop a.at a.bands.now)) = omega (arith, long a.bands.now a.at a.size r.in_run, r.some) in
-    let few = count_few (take a.size (drop a.at a.bands.now)) a.ribbon.now some c.start_of-start.result in
+    let few = count_few (take a.size (drop a.at a.bands.now)) a.ribbon.now some c.start-start.result in
     record { fits = omega (arith, few, c.count_from-places.ensures, r.short) }
 
 pub returns : goal.returns
 returns c =
     let a = c.args in
-    counted_behind (take a.size (drop a.at a.bands.now)) a.ribbon.now a.way c.requires.place c.start_of-start.ensures
+    counted_behind (take a.size (drop a.at a.bands.now)) a.ribbon.now a.way c.requires.place c.start-start.ensures
     c.count_from-places.ensures

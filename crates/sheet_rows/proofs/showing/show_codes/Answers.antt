@@ -15,7 +15,7 @@ show_code-requires c =
     let fit = holds (is_fit_list a.bands.now a.lengths.now) c.requires.0 in
     let next = next_in fit l.invariant.there c.loop-i-test.true in
     let code = next_is fit l.invariant.there c.loop-i-test.true in
-    record {
+    rw c.from-size.ensures record {
       in_run = next.0;
       small = next.1;
       some = next.3;
@@ -28,9 +28,10 @@ show_code-requires c =
 pub overflow_add-at : goal.overflow_add-at
 overflow_add-at c =
     let fit = holds (is_fit_list c.args.bands.now c.args.lengths.now) c.requires.0 in
-    record { fits = omega (arith, (next_in fit c.loop-i.invariant.there c.loop-i-test.true).1) }
+    record { fits = omega (arith, c.from-size.ensures, (next_in fit c.loop-i.invariant.there c.loop-i-test.true).1) }
 
 pub loop-i-preserved : goal.loop-i-preserved
 loop-i-preserved c =
     let fit = holds (is_fit_list c.args.bands.now c.args.lengths.now) c.requires.0 in
-    showing_next c.loop-i.invariant fit c.loop-i-test.true c.show_code.ensures
+    let shows = rw c.from-size.ensures at c.show_code.ensures in
+    rw c.from-size.ensures (showing_next c.loop-i.invariant fit c.loop-i-test.true shows)

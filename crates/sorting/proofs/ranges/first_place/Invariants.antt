@@ -1,11 +1,13 @@
--- `first_place` halves the places that are left. The invariant: those before `low` are before side k, those from `high` on
+-- `first_place` halves the places that are left. The invariant: those before `low` are before side `least`, those from `high` on
 -- are not, since the sides of sorted faces rise.
-use Prim.Native.Nat.{◌-◌}
-use Rattle.sorting.specs.Sorted.{side_at, Narrowed}
+use Rattle.std.proofs.Common.{◌-◌, length}
+use Rattle.std.specs.Ordering.{ordering_index}
+use Rattle.matching.specs.Forms.{bands_of}
+use Rattle.sorting.specs.Sorted.{ending, side_at, Narrowed}
 use Rattle.sorting.proofs.ranges.first_place.Given as goal
 
 abbrev pub invariant-loop-low : goal.invariant-loop-low
-invariant-loop-low l = Narrowed (side_at l.bands l.starts l.sizes l.sorted l.a l.o) l.k l.m l.low l.high
+invariant-loop-low l = Narrowed (side_at l.parts l.sorted (ending l.o (bands_of l.d))) (ordering_index l.least) (length l.sorted) l.low l.high
 
 abbrev pub decreases-loop-low : goal.decreases-loop-low
 decreases-loop-low l = l.high - l.low

@@ -1,19 +1,22 @@
--- `range_end`: the first place of the range decides whether it is empty; if not, what is behind it is searched.
+-- `range_end`: the first face decides whether the range is empty; if not, what is behind it is searched.
+use mathlib.Core.Path.{sym}
 use native.Mathlib.Omega.{arith}
-use Rattle.sorting.proofs.Rising.{seeks_at, narrow_up, narrow_down}
+use Rattle.std.specs.declared.cmp.Ordering.TheVariants.{Equal}
+use Rattle.sorting.proofs.Rising.{side_less, side_not_less, others_rise, narrow_none, narrow_down, narrowed_behind}
 use Rattle.sorting.proofs.ranges.range_end.Goals as goal
 
-pub returns-then-low-m : goal.returns-then-low-m
-returns-then-low-m c = rw c.if-low-m.true at c.requires.1
-
-pub face_side-requires : goal.face_side-requires
-face_side-requires c = seeks_at c.requires.0 c.args.low (omega arith)
-
-pub returns-then-face_side-gt1 : goal.returns-then-face_side-gt1
-returns-then-face_side-gt1 c = narrow_down c.requires.0 c.requires.1 c.face_side.ensures (omega arith) (omega arith) (omega arith)
+pub returns-then-lt : goal.returns-then-lt
+returns-then-lt c =
+    let e = c.in-Some.ensures.cases.0 in
+    let q = rw e at c.requires.0 in
+    let l = side_less Equal c.side.result (sym c.if-lt.ensures) in
+    rw e (narrow_down q _ narrow_none (rw c.face.ensures.same at c.side.ensures) (omega arith) (omega arith) (omega arith))
 
 pub first_place-requires : goal.first_place-requires
-first_place-requires c = (
-  c.requires.0,
-  narrow_up c.requires.0 c.requires.1 c.face_side.ensures (omega arith) (omega arith) (omega arith),
-)
+first_place-requires c = (others_rise (rw c.in-Some.ensures.cases.0 at c.requires.0), c.requires.1)
+
+pub returns : goal.returns
+returns c =
+    let l = side_not_less Equal c.side.result (sym c.if-lt.ensures) in
+    let s = rw c.face.ensures.same at c.side.ensures in
+    rw c.in-Some.ensures.cases.0 (narrowed_behind _ _ _ _ (omega arith) c.first_place.ensures)

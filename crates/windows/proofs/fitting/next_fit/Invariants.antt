@@ -1,6 +1,5 @@
 -- `next_fit`: the window is that of its start, and no start passed over fits.
-use Prim.Native.Nat.{◌-◌}
-use lib.ListN.{length}
+use Rattle.std.proofs.Common.{◌-◌, length}
 use Rattle.windows.specs.Windows.{Windowed, Skipped}
 use Rattle.windows.proofs.fitting.next_fit.Given as goal
 

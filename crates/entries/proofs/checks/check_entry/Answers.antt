@@ -1,0 +1,10 @@
+-- `check_entry` meets its contract: a row without two fields has the fault that it has whatever the test of two fields is.
+use Rattle.std.proofs.lemmas.Result.{err_from_is_err_and}
+use Rattle.lists.specs.Handed.{words_of}
+use Rattle.grammar.specs.Orders.{entry_fault_lem}
+use Rattle.entries.proofs.checks.check_entry.Goals as goal
+
+pub returns-in_err-row : goal.returns-in_err-row
+returns-in_err-row c =
+    let p = err_from_is_err_and c.from_residual.result c.from_residual.ensures.1 in
+    rw (p.1, p.2) (record { fault = c.in_err-row.ensures (entry_fault_lem (words_of c.args.before)); found = tt })

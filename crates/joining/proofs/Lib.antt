@@ -1,0 +1,2 @@
+-- The joins as a row of numbers.
+pub mod Rows

@@ -1,0 +1,2 @@
+-- The joins as the routines hold them.
+pub mod Joins

@@ -1,0 +1,60 @@
+// A word read as given or turned, its bands, and two of them compared band by band.
+ghost use Rattle.std.specs.Prelude.{◌≡◌, true, false, ◌≤◌, ◌<◌, length, get_or};
+ghost use Rattle.words.specs.Overlap.{agrees};
+ghost use Rattle.matching.specs.Forms.{bands_of};
+
+// A word as it is read. What is Copy and borrows has no model of its own, so contracts say what is read by `bands_of`.
+#[derive(Clone, Copy)]
+pub struct Form<'a> {
+    pub word: &'a [u8],
+    pub turned: bool,
+}
+
+impl<'a> Form<'a> {
+    pub fn given(word: &'a [u8]) -> Form<'a>
+        ensures { result ≡ record { word = word.entry; turned = false } }
+    {
+        Form {
+            word,
+            turned: false,
+        }
+    }
+
+    pub fn turned(word: &'a [u8]) -> Form<'a>
+        ensures { result ≡ record { word = word.entry; turned = true } }
+    {
+        Form { word, turned: true }
+    }
+
+    pub fn len(self) -> usize
+        ensures { result ≡ length self.entry.word.now }
+    {
+        self.word.len()
+    }
+
+    // Band i, as the form is read.
+    pub fn band(self, i: usize) -> u8
+        requires { i < length self.word.now }
+        ensures { result ≡ get_or (bands_of self.entry) i 0 }
+    {
+        if self.turned {
+            self.word[self.word.len() - 1 - i]
+        } else {
+            self.word[i]
+        }
+    }
+
+    // The last k bands are the first k of another.
+    pub(crate) fn agrees(self, other: Form<'_>, k: usize) -> bool
+        requires { (k ≤ length self.word.now) × (k ≤ length other.word.now) }
+        ensures { result ≡ agrees (bands_of self.entry) (bands_of other.entry) k }
+    {
+        let start = self.len() - k;
+        for i in 0..k {
+            if self.band(start + i) != other.band(i) {
+                return false;
+            }
+        }
+        true
+    }
+}

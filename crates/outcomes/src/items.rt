@@ -1,0 +1,72 @@
+// The items of buffers, and how they are said. Not by Display: bytes and records have texts of the trials' own.
+use std::fmt;
+use std::fmt::Write;
+use telling::Checksum;
+
+pub trait Item: Copy + PartialEq {
+    // What stands between two items that are said.
+    const BETWEEN: &'static str;
+
+    // What item i of a lent buffer holds before a call.
+    fn mark(i: usize) -> Self;
+
+    // It is said.
+    fn fmt<W: Write>(self, f: &mut fmt::Formatter<W>) -> fmt::Result;
+
+    // It goes into a checksum.
+    fn feed(self, sum: &mut Checksum);
+}
+
+impl Item for u8 {
+    const BETWEEN: &'static str = "";
+
+    fn mark(i: usize) -> Self {
+        b'a' + (i % 26) as u8
+    }
+
+    // Plainly: as itself, or behind a `\` by a letter or two digits.
+    fn fmt<W: Write>(self, f: &mut fmt::Formatter<W>) -> fmt::Result {
+        match self {
+            b'\r' => f.write_str("\\r"),
+            b'\n' => f.write_str("\\n"),
+            32..=126 => f.write_char(char::from(self)),
+            _ => write!(f, "\\{self:02X}"),
+        }
+    }
+
+    fn feed(self, sum: &mut Checksum) {
+        sum.feed(u32::from(self));
+    }
+}
+
+impl Item for u16 {
+    const BETWEEN: &'static str = " ";
+
+    fn mark(i: usize) -> Self {
+        1000 + (i % 160) as u16
+    }
+
+    fn fmt<W: Write>(self, f: &mut fmt::Formatter<W>) -> fmt::Result {
+        write!(f, "{self}")
+    }
+
+    fn feed(self, sum: &mut Checksum) {
+        sum.feed(u32::from(self));
+    }
+}
+
+// Items side by side.
+#[derive(Clone, Copy)]
+pub struct Listed<'a, T>(pub &'a [T]);
+
+impl<T: Item> fmt::Display for Listed<'_, T> {
+    fn fmt<W: Write>(&self, f: &mut fmt::Formatter<W>) -> fmt::Result {
+        for (i, item) in self.0.iter().enumerate() {
+            if 0 < i {
+                f.write_str(T::BETWEEN)?;
+            }
+            Item::fmt(*item, f)?;
+        }
+        Ok(())
+    }
+}

@@ -1,0 +1,14 @@
+-- `page::sheet_size` meets its contract: a row is as long as told.
+use Rattle.std.proofs.Common.{length, ap, arith}
+use Rattle.pages.proofs.RowByRow.{none_left, next_long}
+use Rattle.pages.proofs.page.sheet_size.Goals as goal
+
+pub loop-code-preserved : goal.loop-code-preserved
+loop-code-preserved c =
+    let next = next_long c.args.rows.now c.loop-code.code c.loop-code-test.true in (
+      omega (arith, c.nth_size-size.ensures.1, c.loop-code.invariant.0),
+      omega (arith, next, c.nth_size-size.ensures.0, c.loop-code.invariant.1),
+    )
+
+pub returns : goal.returns
+returns c = omega (arith, c.loop-code.invariant.1, ap length (none_left c.args.rows.now c.loop-code.code c.loop-code-test.false))
