@@ -1,0 +1,2 @@
+-- What is taken for a fit list.
+pub mod Lists
