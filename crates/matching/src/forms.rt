@@ -1,5 +1,5 @@
 // A word read as given or turned, its bands, and two of them compared band by band.
-ghost use Rattle.std.specs.Prelude.{◌≡◌, true, false, ◌≤◌, ◌<◌, length, get_or};
+ghost use Rattle.std.specs.Prelude.{◌≡◌, true, false, ◌-◌, ◌≤◌, ◌<◌, length, drop, get_or};
 ghost use Rattle.words.specs.Overlap.{agrees};
 ghost use Rattle.matching.specs.Forms.{bands_of};
 
@@ -41,6 +41,21 @@ impl<'a> Form<'a> {
             self.word[self.word.len() - 1 - i]
         } else {
             self.word[i]
+        }
+    }
+
+    // The last k bands as a form.
+    #[tactic(auto, using(crate::proofs::LastBands::turned_last))]
+    pub fn last(self, k: usize) -> Form<'a>
+        requires { k ≤ length self.word.now }
+        ensures long { length result.word.now ≡ k }
+        ensures bands { bands_of result ≡ drop (length (bands_of self.entry) - k) (bands_of self.entry) }
+    {
+        let n = self.word.len();
+        if self.turned {
+            Form::turned(&self.word[..k])
+        } else {
+            Form::given(&self.word[n - k..])
         }
     }
 
