@@ -47,8 +47,8 @@ pub fn sum_of(lengths: &[u16]) -> usize
     lengths.iter().map(|n| usize::from(*n)).sum()
 }
 
-// No clause of refusal 12 holds of a run of bands and a length for each code. The count comes first, so that the sum of
-// any lengths is safe to make.
+// No clause of refusal 12 holds of a run of bands and a length for each code (two slices, as calls hand them over). The
+// count comes first, so that the sum of any lengths is safe to make.
 pub fn list_ok(bands: &[u8], lengths: &[u16]) -> bool
     ensures { result ≡ list_ok_lem bands.now lengths.now }
 {
