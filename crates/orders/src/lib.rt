@@ -11,7 +11,7 @@ use handover::hand_over;
 use lists::{Fault, MOST_CODES, MOST_FILE_BYTES, Refusal};
 
 // What an order list holds: how many codes there are, how many bands in them, and how many bytes of names.
-#[derive(Clone, Copy, Debug, PartialEq, Eq)]
+#[derive(Clone, Copy, Debug, Default, PartialEq, Eq)]
 pub struct Orders {
     pub codes: u32,
     pub bands: u32,
