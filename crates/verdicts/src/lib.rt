@@ -5,11 +5,11 @@ ghost use Rattle.std.specs.Prelude.{◌≡◌};
 ghost use Rattle.places.specs.Calls.{blanks};
 ghost use Rattle.verdicts.specs.Calls.{ChecksInRoom, ChecksAlone};
 
-mod supplied; // refusals of what is supplied, and the difference
+mod supplied; // what is supplied or its refusal, and the difference
 
 use lists::{Fault, MOST_CODES, Refusal};
 use places::{Place, blank, find_places};
-use supplied::{computed_length, difference, supplied_fault};
+use supplied::{computed_length, difference, take_supplied};
 
 // Missing the code of a number; or held, with the supplied length minus the computed one.
 #[derive(Clone, Copy)]
@@ -45,10 +45,11 @@ fn without_records(answer: Result<Checked, Refusal>) -> Findings
 pub fn check_places(bands: &[u8], lengths: &[u16], ribbon: &[u8], room: usize) -> Findings
     ensures { ChecksInRoom bands.now lengths.now ribbon.now room result.answer result.due result.records }
 {
-    if let Err(fault) = supplied_fault(bands, lengths, ribbon) {
-        return without_records(Err(fault.into()));
-    }
-    let sought = find_places(bands, lengths, ribbon);
+    let list = match take_supplied(bands, lengths, ribbon) {
+        Ok(list) => list,
+        Err(fault) => return without_records(Err(fault.into())),
+    };
+    let sought = find_places(list, ribbon);
     let count = sought.count;
     if count < lengths.len() {
         return without_records(Ok(Checked::Missing(count as u32)));
@@ -56,7 +57,7 @@ pub fn check_places(bands: &[u8], lengths: &[u16], ribbon: &[u8], room: usize) -
     if room < count {
         return without_records(Err(Fault::ShortBuffer.into()));
     }
-    let longer = difference(ribbon.len(), computed_length(bands, lengths));
+    let longer = difference(ribbon.len(), computed_length(list));
     let records = sought.records;
     Findings {
         answer: Ok(Checked::Held(longer)),

@@ -5,7 +5,9 @@ use Rattle.verdicts.proofs.Calls.{is_laid}
 use Rattle.verdicts.proofs.supplied.computed_length.Goals as goal
 
 pub unwrap-laid-requires : goal.unwrap-laid-requires
-unwrap-laid-requires c = is_laid c.args.bands.now c.args.lengths.now _ c.requires (search rules) _ c.lay_ribbon.ensures
+unwrap-laid-requires c =
+    let list = c.args.list in
+    is_laid list.codes.bytes.now list.codes.sizes.now _ list.fit (search rules) _ c.lay_ribbon.ensures
 
 pub returns : goal.returns
 returns c = size_is (told c.lay_ribbon.ensures c.unwrap-laid.ensures)
