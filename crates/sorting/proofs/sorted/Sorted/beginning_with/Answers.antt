@@ -1,4 +1,4 @@
--- `Sorted::beginning_with`: the places on side 1 have the faces that begin with d's last o bands, and all of these.
+-- `Sorted::beginning_with`: the places on side 1 have the faces that begin with the word, and all of these.
 use Rattle.sorting.proofs.Together.{tail_is, begin}
 use Rattle.sorting.proofs.sorted.Sorted.beginning_with.Goals as goal
 

@@ -1,22 +1,22 @@
--- `range_end`: the first face decides whether the range is empty; if not, what is behind it is searched.
+-- `Risen::range_end`: the first face decides whether the range is empty; if not, what is behind it is searched.
 use mathlib.Core.Path.{sym}
 use native.Mathlib.Omega.{arith}
 use Rattle.std.specs.declared.cmp.Ordering.TheVariants.{Equal}
 use Rattle.sorting.proofs.Rising.{side_less, side_not_less, others_rise, narrow_none, narrow_down, narrowed_behind}
-use Rattle.sorting.proofs.ranges.range_end.Goals as goal
+use Rattle.sorting.proofs.ranges.Risen.range_end.Goals as goal
 
 pub returns-then-lt : goal.returns-then-lt
 returns-then-lt c =
     let e = c.in-Some.ensures.cases.0 in
-    let q = rw e at c.requires.0 in
+    let q = rw e at c.args.self.rising in
     let l = side_less Equal c.side.result (sym c.if-lt.ensures) in
-    rw e (narrow_down q _ narrow_none (rw c.face.ensures.same at c.side.ensures) (omega arith) (omega arith) (omega arith))
+    rw e (narrow_down q _ narrow_none (rw c.face.ensures at c.side.ensures) (omega arith) (omega arith) (omega arith))
 
-pub first_place-requires : goal.first_place-requires
-first_place-requires c = (others_rise (rw c.in-Some.ensures.cases.0 at c.requires.0), c.requires.1)
+pub invariant_of-others : goal.invariant_of-others
+invariant_of-others c = record { rising = others_rise (rw c.in-Some.ensures.cases.0 at c.args.self.rising) }
 
 pub returns : goal.returns
 returns c =
     let l = side_not_less Equal c.side.result (sym c.if-lt.ensures) in
-    let s = rw c.face.ensures.same at c.side.ensures in
+    let s = rw c.face.ensures at c.side.ensures in
     rw c.in-Some.ensures.cases.0 (narrowed_behind _ _ _ _ (omega arith) c.first_place.ensures)
