@@ -4,8 +4,8 @@ ghost use Rattle.joins.specs.Rows.{Row};
 ghost use Rattle.joining.specs.Joins.{row_of};
 ghost use Rattle.faces.specs.Passing.{LowestFollows, MayFollow, may_follow_lem, Lower, LowestAmong};
 
+use crate::pass::Joining;
 use joining::mirror_of;
-use sorting::Sorted;
 
 // What may come after a face, whatever its bands.
 #[derive(Clone, Copy)]
@@ -52,25 +52,21 @@ impl Followers<'_> {
     }
 }
 
-// The lowest face that can come after a with o bands shared: of those that begin with a's last o bands.
-pub fn lowest_following(
-    sorted: &Sorted<'_>,
-    after: &[Option<usize>],
-    a: usize,
-    o: usize,
-    head: usize,
-) -> Option<usize>
-    requires { Row (length sorted.now) (row_of after.now) × (a < 2 * length sorted.now) }
-    ensures { LowestFollows sorted.now (row_of after.now) a o head result }
-{
-    let face = sorted.parts().face(a);
-    if face.len() < o {
-        return None;
+impl Joining<'_> {
+    // The lowest face that can come after a with o bands shared: of those that begin with a's last o bands.
+    pub(crate) fn lowest_following(&self, a: usize, o: usize, head: usize) -> Option<usize>
+        requires { Row (length self.now.sorted) (row_of self.now.after) × (a < 2 * length self.now.sorted) }
+        ensures { LowestFollows self.now.sorted (row_of self.now.after) a o head result }
+    {
+        let face = self.sorted.parts().face(a);
+        if face.len() < o {
+            return None;
+        }
+        let followers = Followers {
+            after: &self.after,
+            head,
+            other: mirror_of(a),
+        };
+        followers.lowest_among(self.sorted.beginning_with(face.last(o)))
     }
-    let followers = Followers {
-        after,
-        head,
-        other: mirror_of(a),
-    };
-    followers.lowest_among(sorted.beginning_with(face, o))
 }
