@@ -1,10 +1,12 @@
 // From a list of codes to its ribbon: contained codes dropped, faces put in order, the ribbon of that order written.
 #![tactic(auto)]
 
+ghost use Rattle.parts.specs.Parts.{Short};
 ghost use Rattle.layout.specs.Calls.{Gives, order_outcome, kept_outcome, LaysRibbon};
 
 use faces::order_faces;
-use lists::{Fault, Refusal, Run};
+use fitness::FitList;
+use lists::{Fault, Refusal};
 use parts::Parts;
 use spelling::Order;
 
@@ -34,6 +36,7 @@ fn lay_order(order: &Order<'_>, ribbon: &mut [u8]) -> Result<Laid, Refusal>
 
 // The ribbon of kept codes.
 fn lay_kept(parts: &Parts<'_>, ribbon: &mut [u8]) -> Result<Laid, Refusal>
+    requires { Short parts.now }
     ensures { Gives (kept_outcome parts.now ribbon.old) ribbon.new result }
 {
     // A row of fixed memory, as long as any order, and how much of it there is.
@@ -52,12 +55,6 @@ fn lay_kept(parts: &Parts<'_>, ribbon: &mut [u8]) -> Result<Laid, Refusal>
 pub fn lay_ribbon(bands: &[u8], lengths: &[u16], ribbon: &mut [u8]) -> Result<Laid, Refusal>
     ensures { LaysRibbon bands.now lengths.now ribbon.old ribbon.new result }
 {
-    if !fitness::list_ok(bands, lengths) {
-        return Err(Fault::FalseList.into());
-    }
-    let codes = Parts::cut(Run {
-        bytes: bands,
-        sizes: lengths,
-    });
-    lay_kept(&codes.kept(), ribbon)
+    let list = FitList::of(bands, lengths)?;
+    lay_kept(&Parts::cut(list.codes).kept(), ribbon)
 }

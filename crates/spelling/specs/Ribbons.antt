@@ -1,11 +1,13 @@
 -- The ribbon of an order of faces of some codes, whatever the order.
 use Rattle.std.specs.Prelude.{◌≡◌, List, ℕ, ◌*◌, ◌≤◌, ◌<◌, length, get_or}
 use Rattle.words.specs.Turn.{turned}
+use Rattle.parts.specs.Parts.{Short}
 use Rattle.greedy.specs.Reading.{skip_at_lem, read_piece, saved_along}
 
 module _ (ks : List (List ℕ)) where
   pub record InOrder (p : List ℕ) : Type 0 where
     pub few : length p ≤ 256
+    pub short : Short ks
     pub faces : (i : ℕ) → i < length p → get_or p i 0 < 2 * length ks
 
   -- its length and what it saves, which are small

@@ -6,4 +6,4 @@ use Rattle.spelling.proofs.writing.Order.skip_at.Goals as goal
 
 pub returns : goal.returns
 returns c =
-    c.overlap.ensures ∙ ap₂ overlap c.face-before.ensures.same c.face.ensures.same ∙ skip_next c.args.self.now.in_order c.requires c.if-i-eq0.false
+    c.overlap.ensures ∙ ap₂ overlap c.face-before.ensures c.face.ensures ∙ skip_next c.args.self.now.in_order c.requires c.if-i-eq0.false
