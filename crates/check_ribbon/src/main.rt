@@ -11,6 +11,7 @@ const LIST_ROOM: usize = MOST_FILE_BYTES + 1;
 const RIBBON_ROOM: usize = MOST_SUPPLIED_BANDS + 3;
 
 fn main(rt: HostRuntime) {
+    // three rows of a fixed size, each as long as it can be of use: there is no heap
     let mut list = [0u8; LIST_ROOM];
     let n = files::read_named(&rt, 1, &mut list);
     let mut ribbon = [0u8; RIBBON_ROOM];

@@ -7,7 +7,7 @@ use std::fs::OpenOptions;
 use std::io::Read;
 use std::rt::{Env, Files};
 
-// as long as the system lets a path be
+// as long as the system lets a path be: a row of its own, as there is no heap
 const MOST_PATH_BYTES: usize = 4096;
 
 // The bytes of an open file, as many as the buffer takes; how many. A file that cannot be read to its end counts as one of

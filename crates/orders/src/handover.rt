@@ -8,7 +8,8 @@ use crate::Orders;
 use entries::Gathered;
 use lists::{Fault, Refusal, Run};
 
-// The answer, with the words that were gathered written into the lent buffers where each is long enough.
+// The answer, with the words that were gathered written into the lent buffers where each is long enough. Four buffers, as C
+// lends them.
 pub fn hand_over(
     all: Gathered,
     bands: &mut [u8],

@@ -35,6 +35,7 @@ pub fn read_orders(
     if file.is_empty() {
         return Err(Fault::WrongHeading.into());
     }
+    // four rows of a fixed size, as much as a file may hold: there is no heap
     let mut code_run = [0u8; MOST_FILE_BYTES];
     let mut code_lengths = [0u16; MOST_CODES];
     let mut name_run = [0u8; MOST_FILE_BYTES];

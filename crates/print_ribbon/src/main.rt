@@ -11,6 +11,7 @@ const LINE: usize = MOST_BANDS + 2;
 
 // As in `print_sheet`: all but the call and its row stands in `files` and in std.
 fn main(rt: HostRuntime) {
+    // two rows of a fixed size, each as long as it can be of use: there is no heap
     let mut file = [0u8; ROOM];
     let n = files::read_whole(&mut rt.stdin(), &mut file);
     let mut out = [0u8; LINE];

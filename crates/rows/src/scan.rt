@@ -2,7 +2,7 @@
 ghost use Rattle.std.specs.Prelude.{◌≡◌, ◌≢◌, ℕ, ◌+◌, ◌≤◌, ◌<◌, length, slice_set, Option};
 ghost use Rattle.grammar.specs.Files.{quote};
 ghost use Rattle.grammar.specs.Rows.{Outside, takes_text, outside, inside};
-ghost use Rattle.rows.specs.Scans.{ReadsRow};
+ghost use Rattle.rows.specs.Scans.{TakesRow, ReadsRow};
 ghost use Rattle.rows.specs.Taken.{mode_of, Takes};
 
 // A row as read: how many fields it has, the lengths of the contents of the first two, and how many bytes it takes up.
@@ -76,7 +76,7 @@ fn take_byte(mode: Mode, b: u8, next: Option<u8>) -> Step
 // beginnings of the buffers. Two buffers and no struct of them: one that holds a `&mut` needs a clause more in each function
 // that it is lent to, that the reference stays the same.
 pub fn read_row(here: &[u8], names: &mut [u8], bands: &mut [u8]) -> Option<RowRead>
-    requires { (length here.now ≤ length names.old) × (length here.now ≤ length bands.old) }
+    requires { TakesRow here.now names.old bands.old }
     ensures { ReadsRow here.now names.new bands.new result }
 {
     let mut mode = Mode::Start;
