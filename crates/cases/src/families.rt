@@ -1,4 +1,6 @@
 // The families of generated lists: how many codes a list has, and how each is made.
+ghost use Rattle.std.specs.Prelude.{◌≤◌};
+
 use crate::code::{Code, fresh, palindrome, part_of};
 use crate::codes::Codes;
 use crate::draws::Draws;
@@ -44,10 +46,14 @@ pub struct Plan {
     pub due: usize,
     letters: Letters,
     word: Word,
+    ghost some: { 2 ≤ due },
+    ghost few: { due ≤ 128 },
 }
 
 impl Plan {
-    fn new(family: Family, due: usize, letters: Letters) -> Self {
+    fn new(family: Family, due: usize, letters: Letters) -> Self
+        requires { (2 ≤ due) × (due ≤ 128) }
+    {
         Plan {
             family,
             due,
@@ -96,7 +102,7 @@ impl Plan {
             let n = 1 + draws.below(10);
             return fresh(n, self.letters, draws);
         }
-        let whole = codes.code(draws.below(codes.count()));
+        let whole = codes.word(draws.below(codes.count()));
         let n = 1 + draws.below(whole.len());
         part_of(whole, n, draws)
     }
