@@ -16,6 +16,7 @@ pub fn draw_codes(family: Family, k: usize, draws: &mut Draws) -> Codes
 {
     let mut codes = Codes::new();
     let plan = Plan::draw(family, k, draws);
+    // no chain: the next code may be a part of those before it
     for _ in 0..plan.due {
         codes.push(plan.next_code(&codes, draws).as_slice());
     }

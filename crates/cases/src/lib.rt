@@ -13,11 +13,11 @@ mod rooms; // that a case lends
 mod supplied; // the ribbon of a generated case
 mod word_list; // words side by side
 
-pub use codes::draw_codes;
+pub use codes::{Codes, draw_codes};
 pub use draws::Draws;
 pub use families::Family;
 pub use line::Line;
-pub use names::draw_names;
+pub use names::{Names, draw_names};
 pub use rooms::{FileRooms, ListRooms};
 pub use supplied::supply;
 pub use word_list::Words;

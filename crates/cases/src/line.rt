@@ -1,4 +1,6 @@
 // A line of the file of cases: fields, one space apart, and what they stand for.
+ghost use Rattle.std.specs.Prelude.{◌≡◌};
+
 use crate::fields::{read_bytes, read_number, read_numbers};
 use arrayvec::ArrayVec;
 
@@ -8,7 +10,9 @@ pub struct Line<'a> {
 }
 
 impl<'a> Line<'a> {
-    pub fn new(text: &'a [u8]) -> Self {
+    pub fn new(text: &'a [u8]) -> Self
+        ensures { result.text.now ≡ text.now }
+    {
         Line { text }
     }
 

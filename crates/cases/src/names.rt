@@ -39,6 +39,7 @@ pub fn draw_names(count: usize, draws: &mut Draws) -> Names
     ensures short { length result.bytes.items ≤ 24 * count }
 {
     let mut names = Names::new();
+    // no chain: each name goes into two rows
     for i in 0..count {
         names.push(name(i, draws).as_slice());
     }

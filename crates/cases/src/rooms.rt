@@ -1,11 +1,13 @@
 // The rooms that a case lends.
-ghost use Rattle.std.specs.Prelude.{◌≤◌};
+ghost use Rattle.std.specs.Prelude.{◌≡◌, ◌≤◌, ℕ, List, slice_index_or};
 
 use crate::draws::Draws;
 use lists::{MOST_BANDS, MOST_CODES};
 
 // The room of this number in a line; 0 where the line has none.
-fn room(numbers: &[u16], i: usize) -> usize {
+fn room(numbers: &[u16], i: usize) -> usize
+    ensures { result ≡ slice_index_or numbers.now i 0 }
+{
     numbers.get(i).copied().map_or(0, usize::from)
 }
 
@@ -19,6 +21,13 @@ pub struct FileRooms {
 }
 
 impl From<&[u16]> for FileRooms {
+    ghost from_gives = { λ n r. r ≡ record {
+      bands = slice_index_or n.now 0 0;
+      lengths = slice_index_or n.now 1 0;
+      names = slice_index_or n.now 2 0;
+      sizes = slice_index_or n.now 3 0;
+    } };
+
     fn from(numbers: &[u16]) -> Self {
         FileRooms {
             bands: room(numbers, 0),
@@ -38,6 +47,12 @@ pub struct ListRooms {
 }
 
 impl From<&[u16]> for ListRooms {
+    ghost from_gives = { λ n r. r ≡ record {
+      ribbon = slice_index_or n.now 0 0;
+      records = slice_index_or n.now 1 0;
+      sheet = slice_index_or n.now 2 0;
+    } };
+
     fn from(numbers: &[u16]) -> Self {
         ListRooms {
             ribbon: room(numbers, 0),
