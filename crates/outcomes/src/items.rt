@@ -1,4 +1,6 @@
 // The items of buffers, and how they are said. Not by Display: bytes and records have texts of the trials' own.
+ghost use Rattle.std.specs.Prelude.{◌≡◌, ℕ, ◌+◌, ◌%◌};
+
 use std::fmt;
 use std::fmt::Write;
 use telling::Checksum;
@@ -7,8 +9,11 @@ pub trait Item: Copy + PartialEq {
     // What stands between two items that are said.
     const BETWEEN: &'static str;
 
+    ghost marked: { ℕ → Self };
+
     // What item i of a lent buffer holds before a call.
-    fn mark(i: usize) -> Self;
+    fn mark(i: usize) -> Self
+        ensures { result ≡ marked i };
 
     // It is said.
     fn fmt<W: Write>(self, f: &mut fmt::Formatter<W>) -> fmt::Result;
@@ -19,6 +24,8 @@ pub trait Item: Copy + PartialEq {
 
 impl Item for u8 {
     const BETWEEN: &'static str = "";
+
+    ghost marked = { λ i. 97 + i % 26 };
 
     fn mark(i: usize) -> Self {
         b'a' + (i % 26) as u8
@@ -41,6 +48,8 @@ impl Item for u8 {
 
 impl Item for u16 {
     const BETWEEN: &'static str = " ";
+
+    ghost marked = { λ i. 1000 + i % 160 };
 
     fn mark(i: usize) -> Self {
         1000 + (i % 160) as u16

@@ -1,0 +1,2 @@
+-- What lent records hold before a call.
+pub mod Marks
