@@ -8,14 +8,14 @@ use std::fmt;
 use telling::Tally;
 
 // The case of a line `file FILE ROOMS`.
-pub fn file_line(t: &mut Tally<impl Print>, k: u64, line: Line) -> fmt::Result {
+pub fn file_line(t: &mut Tally<impl Print>, line: Line) -> fmt::Result {
     let file = line.bytes::<MOST_BYTES>(1);
     let rooms = line.numbers::<MOST_NUMBERS>(2);
-    run_file(t, k, file.as_slice(), FileRooms::from(rooms.as_slice()))
+    run_file(t, file.as_slice(), FileRooms::from(rooms.as_slice()))
 }
 
 // The case of a line `list BANDS LENGTHS NAMES SIZES RIBBON ROOMS`.
-pub fn list_line(t: &mut Tally<impl Print>, k: u64, line: Line) -> fmt::Result {
+pub fn list_line(t: &mut Tally<impl Print>, line: Line) -> fmt::Result {
     let bands = line.bytes::<MOST_BYTES>(1);
     let lengths = line.numbers::<MOST_NUMBERS>(2);
     let names = line.bytes::<MOST_BYTES>(3);
@@ -30,12 +30,12 @@ pub fn list_line(t: &mut Tally<impl Print>, k: u64, line: Line) -> fmt::Result {
         ribbon: ribbon.as_slice(),
         rooms: ListRooms::from(rooms.as_slice()),
     };
-    case.run(t, k)
+    case.run(t)
 }
 
 // The case of a line `pair LIST RIBBON`.
-pub fn pair_line(t: &mut Tally<impl Print>, k: u64, line: Line) -> fmt::Result {
+pub fn pair_line(t: &mut Tally<impl Print>, line: Line) -> fmt::Result {
     let list = line.bytes::<MOST_BYTES>(1);
     let ribbon = line.bytes::<MOST_BYTES>(2);
-    run_pair(t, k, list.as_slice(), ribbon.as_slice())
+    run_pair(t, list.as_slice(), ribbon.as_slice())
 }

@@ -5,10 +5,9 @@ use outcomes::{
 };
 use ribbons::{Checked, Refusal};
 use std::fmt;
-use std::fmt::Write;
 use telling::Tally;
 
-// The list, its names, a supplied ribbon, and the rooms that are lent.
+// The list, its names, a supplied ribbon, and the rooms that are lent. No runs of words: a case may hand over a false list.
 #[derive(Clone, Copy)]
 pub struct ListCase<'a> {
     pub bands: &'a [u8],
@@ -38,6 +37,7 @@ impl ListCase<'_> {
 
     // The list laid out into a lent buffer.
     fn tell_laid(self, t: &mut Tally<impl Print>) -> fmt::Result {
+        // no heap: a row of a fixed size, as callers lend it
         let mut row = [0u8; MOST_BYTES];
         let ribbon = lend(&mut row, self.rooms.ribbon);
         let laid = ribbons::lay_ribbon(self.bands, self.lengths, ribbon);
@@ -52,6 +52,7 @@ impl ListCase<'_> {
 
     // The ribbon checked into lent records.
     fn tell_checked(self, t: &mut Tally<impl Print>) -> fmt::Result {
+        // no heap: a row of a fixed size, as callers lend it
         let mut row = [blank_record(); MOST_RECORDS];
         let records = lend(&mut row, self.rooms.records);
         let answer = ribbons::check_ribbon(self.bands, self.lengths, self.ribbon, records);
@@ -80,6 +81,7 @@ impl ListCase<'_> {
 
     // The sheet written into a lent buffer.
     fn tell_sheet(self, t: &mut Tally<impl Print>) -> fmt::Result {
+        // no heap: a row of a fixed size, as callers lend it
         let mut row = [0u8; MOST_BYTES];
         let rows = lend(&mut row, self.rooms.sheet);
         let wrote = ribbons::write_sheet(self.bands, self.lengths, self.names, self.sizes, rows);
@@ -92,9 +94,9 @@ impl ListCase<'_> {
         )
     }
 
-    // Runs case k and tells it.
-    pub fn run(self, t: &mut Tally<impl Print>, k: u64) -> fmt::Result {
-        writeln!(t, "case,{k},list")?;
+    // Runs the next case and tells it.
+    pub fn run(self, t: &mut Tally<impl Print>) -> fmt::Result {
+        t.begin_case("list")?;
         self.say(t)?;
         self.tell_laid(t)?;
         self.tell_checked(t)?;

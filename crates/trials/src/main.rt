@@ -20,12 +20,14 @@ const ROOM: usize = 131072;
 
 // What the first argument asks for.
 fn asked(rt: &HostRuntime) -> Shown {
+    // no heap: a row of a fixed size
     let mut argument = [0u8; 4096];
     let n = rt.arg(1, &mut argument).unwrap_or(0);
     Shown::from(&argument[..n])
 }
 
 fn main(rt: HostRuntime) {
+    // no heap: a row of a fixed size
     let mut file = [0u8; ROOM];
     let n = files::read_whole(&mut rt.stdin(), &mut file);
     // a failed write is passed over: the checksums tell of the calls all the same
