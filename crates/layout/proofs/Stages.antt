@@ -27,7 +27,7 @@ use Rattle.greedy.specs.Answers.{lay_outcome}
 use Rattle.layout.specs.Calls.{Gives, answer_of, order_outcome, kept_outcome}
 use Rattle.greedy.specs.Answers as a
 use Rattle.greedy.proofs.Answers.{by_tests}
-use Rattle.layout.specs.declared.Laid.{Laid}
+use Rattle.layout.specs.Laid.{Laid}
 use Rattle.lists.specs.declared.numbers.Refusal.{Refusal}
 
 -- the ribbon of an order: too long for the buffer, or written

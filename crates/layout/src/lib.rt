@@ -11,11 +11,7 @@ use parts::Parts;
 use spelling::Order;
 
 // A ribbon's length, and what it saves.
-#[derive(Clone, Copy)]
-pub struct Laid {
-    pub bands: u32,
-    pub saved: u32,
-}
+pub type Laid = spelling::Sums<u32>;
 
 // The ribbon of an order of faces, written where it fits.
 fn lay_order(order: &Order<'_>, ribbon: &mut [u8]) -> Result<Laid, Refusal>

@@ -7,11 +7,11 @@ ghost use Rattle.spelling.specs.Ribbons.{InOrder, Measures, Skips};
 
 use parts::Parts;
 
-// A ribbon's length and what it saves.
+// A ribbon's length and what it saves. N is the type of both.
 #[derive(Clone, Copy)]
-pub struct Sums {
-    pub bands: usize,
-    pub saved: usize,
+pub struct Sums<N> {
+    pub bands: N,
+    pub saved: N,
 }
 
 // An order of faces of some codes.
@@ -36,7 +36,7 @@ impl Order<'_> {
     }
 
     // The sums along the order: what each face adds, and what it shares, which goes into a row of its own.
-    pub fn measure(&self, skips: &mut [usize]) -> Sums
+    pub fn measure(&self, skips: &mut [usize]) -> Sums<usize>
         requires { length self.now.faces.now ≤ length skips.old }
         ensures { Measures self.now.parts.now self.now.faces.now result.bands result.saved × Skips self.now.parts.now self.now.faces.now skips.new }
     {
