@@ -35,7 +35,7 @@ pub fn put_heading<S: Sink>(sink: &mut S)
     sink.put(b"name,way,start,bands,places\r\n");
 }
 
-// A way between its two commas is put into a sink.
+// A way between its two commas is put into a sink. No Display: the three are texts of the sheet's rows, not names of a way.
 pub fn put_way<S: Sink>(way: Way, sink: &mut S)
     requires { Fits S.kind sink.old (way_text way) }
     ensures { Puts S.kind sink.old (way_text way) sink.new }

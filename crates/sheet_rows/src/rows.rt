@@ -6,21 +6,21 @@ ghost use Rattle.sheet_rows.specs.Placed.{RowsThere};
 use crate::pieces::{Shown, put_places, put_way};
 use fields::{Counter, Sink, put_decimal, put_field};
 use fitness::sum_of;
+use lists::Run;
 use places::Way;
 
 // What the rows of a sheet are made of: the names and the codes' lengths as they are handed over, what is shown of each code,
 // and the ribbon.
 #[derive(Clone, Copy)]
 pub struct Rows<'a> {
-    pub names: &'a [u8],
-    pub sizes: &'a [u16],
-    // Two rows: the lengths stay as they are handed over.
+    pub names: Run<'a>,
+    // A row beside that of what is shown: the lengths stay as they are handed over.
     pub lengths: &'a [u16],
     pub shown: &'a [Shown],
     pub ribbon: &'a [u8],
 
     // Names, lengths and what is shown are there for each code, and each place lies on the ribbon.
-    ghost there: { RowsThere names.now sizes.now lengths.now shown.now ribbon.now },
+    ghost there: { RowsThere names.bytes.now names.sizes.now lengths.now shown.now ribbon.now },
 }
 
 // A row, by its columns.
@@ -69,14 +69,14 @@ impl Rows<'_> {
         requires { i < length self.now.lengths.now }
         ensures { five_columns result ≡ nth self.now i }
     {
-        let from = sum_of(&self.sizes[..i]);
-        let to = from + usize::from(self.sizes[i]);
+        let from = sum_of(&self.names.sizes[..i]);
+        let to = from + usize::from(self.names.sizes[i]);
         let shown = self.shown[i];
         let start = shown.start();
         let first = start as usize;
         let end = first + usize::from(self.lengths[i]);
         Row {
-            name: &self.names[from..to],
+            name: &self.names.bytes[from..to],
             way: shown.way,
             start,
             bands: &self.ribbon[first..end],
