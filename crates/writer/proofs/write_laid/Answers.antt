@@ -4,11 +4,10 @@ use Rattle.writer.proofs.Stages.{ribbon_short, each_placed, there, size_short, s
 use Rattle.writer.proofs.write_laid.Goals as goal
 
 pub find_places-sought-requires : goal.find_places-sought-requires
-find_places-sought-requires c = (c.requires.list_fits, ribbon_short c.requires)
+find_places-sought-requires c = ribbon_short c.requires
 
 pub show_codes-shown-requires : goal.show_codes-shown-requires
-show_codes-shown-requires c =
-    (c.requires.list_fits, ribbon_short c.requires, each_placed c.requires c.find_places-sought.ensures)
+show_codes-shown-requires c = each_placed c.requires c.find_places-sought.ensures
 
 pub invariant_of-rows : goal.invariant_of-rows
 invariant_of-rows c = record { there = there c.requires c.show_codes-shown.ensures }
