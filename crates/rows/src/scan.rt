@@ -1,5 +1,5 @@
 // The scan of one row of an RFC 4180 file, byte by byte.
-ghost use Rattle.std.specs.Prelude.{◌≡◌, ◌≢◌, ℕ, ◌+◌, ◌≤◌, ◌<◌, length, slice_set, Option};
+ghost use Rattle.std.specs.Prelude.{◌≡◌, ◌≢◌, ℕ, ◌+◌, ◌<◌, length, slice_set, Option};
 ghost use Rattle.grammar.specs.Files.{quote};
 ghost use Rattle.grammar.specs.Rows.{Outside, takes_text, outside, inside};
 ghost use Rattle.rows.specs.Scans.{TakesRow, ReadsRow};
