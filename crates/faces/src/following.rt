@@ -44,6 +44,7 @@ impl Followers<'_> {
         requires { (i : ℕ) → i < length faces.now → get_or faces.now i 0 < 256 }
         ensures { LowestAmong (MayFollow (row_of self.entry.after.now) self.entry.head self.entry.other) faces.now result }
     {
+        // Not by `filter` and `min`: tried, and that the test may be called at each turn, with a face, stays unproved.
         let mut best = None;
         for b in faces {
             best = self.lower(*b, best);

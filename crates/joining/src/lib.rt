@@ -1,6 +1,6 @@
 // Joining n kept codes, whatever their faces spell. The joins are one row, `after`: at each face the face after it, or none
 // where the face ends a piece. It and n stay two parameters: a type that kept the row to the faces of n codes would ask more
-// of make_join, which takes any two faces.
+// of make_join, which takes any two faces. So would a type for the numbers of faces, or for rows of just 256.
 #![tactic(auto)]
 
 mod ends; // from a face to the end of its piece

@@ -11,6 +11,7 @@ fn write_piece(after: &[Option<usize>], n: usize, f: usize, order: &mut [usize])
     ensures { WrotePiece n (row_of after.now) f order.old order.new result }
 {
     let mut at = f;
+    // By numbers: what is behind the piece stays as it was, so each step speaks of the whole row, and not of a part lent.
     for count in 0..2 * n {
         order[count] = at;
         let Some(next) = after[at] else {

@@ -17,7 +17,7 @@ pub type Laid = spelling::Sums<u32>;
 fn lay_order(order: &Order<'_>, ribbon: &mut [u8]) -> Result<Laid, Refusal>
     ensures { Gives (order_outcome order.now.parts.now order.now.faces.now ribbon.old) ribbon.new result }
 {
-    // What neighbours share, kept so that no overlap is looked for twice.
+    // What neighbours share, kept in fixed memory so that no overlap is looked for twice.
     let mut skips = [0usize; 256];
     let sums = order.measure(&mut skips);
     if ribbon.len() < sums.bands {
