@@ -41,7 +41,7 @@ impl Pass {
 
 // The number of starts at which c stands on s, either way, each start once: one pass along s holds the longest beginning of
 // each way that ends at a band and can still be whole, and where one of them is whole a start counts. Where the next start that
-// fits is behind all bands passed, the pass goes on there.
+// fits is behind all bands passed, the pass goes on there. 1 to 64 bands, and no type for it, as in finding.
 pub fn count_places(c: &[u8], s: &[u8]) -> usize
     requires { (0 < length c.now) × (length c.now ≤ 64) }
     ensures { result ≡ count_of turned c.now s.now }
@@ -50,6 +50,7 @@ pub fn count_places(c: &[u8], s: &[u8]) -> usize
     if s.len() < n {
         return 0;
     }
+    // As in finding, with no struct of these: each is used alone, and it would be taken apart again at each step.
     let given = Pattern::of(Form::given(c));
     let turned = Pattern::of(Form::turned(c));
     let sums = sums_of(c);

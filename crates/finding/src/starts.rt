@@ -17,6 +17,7 @@ fn first_start(c: &[u8], s: &[u8], from: usize) -> Option<usize>
     requires { Sought c.now s.now from }
     ensures { MatchOption result (FirstStart turned from c.now s.now (length s.now + 1)) (λ i. (i ≤ length s.now) × FirstStart turned from c.now s.now i) }
 {
+    // As in counting, with no struct of these: each is used alone, and it would be taken apart again at each step.
     let given = Pattern::of(Form::given(c));
     let turned = Pattern::of(Form::turned(c));
     let n = c.len();
@@ -61,7 +62,7 @@ fn first_start(c: &[u8], s: &[u8], from: usize) -> Option<usize>
 }
 
 // The smallest place of c on s from a first start on; there is none where too few bands are left. Where both ways stand at one
-// start, c looks alike from both ends.
+// start, c looks alike from both ends. 1 to 64 bands, and no type for it: the words of a fit list, which has a type, are such.
 pub fn find_place(c: &[u8], s: &[u8], from: usize) -> Option<Way<usize>>
     requires { (0 < length c.now) × (length c.now ≤ 64) }
     ensures { place_in result ≡ place_of turned from c.now s.now }

@@ -13,9 +13,9 @@ pub fn overlap(a: Form<'_>, b: Form<'_>) -> usize
 {
     let most = a.len().min(b.len());
     for k in (MOST_HELD..most).rev() {
-        if a.agrees(b, k + 1) {
+        if a.last(k + 1).begins(b) {
             return k + 1;
         }
     }
-    held_at_end(a, most.min(MOST_HELD), b)
+    held_at_end(a.last(most.min(MOST_HELD)), b)
 }

@@ -1,7 +1,7 @@
 // Pattern matching: a pass along one word that holds the longest beginning of another that ends there, and falls back to
 // shorter beginnings where the next band does not follow (document 000, section 2.1).
 ghost use Rattle.std.specs.Prelude.{◌↔◌, IsTrue, ◌-◌, ◌≤◌, ◌<◌, length};
-ghost use Rattle.words.specs.Falling.{HeldAtEnd, FallBacks, Filled, Follows, Advances};
+ghost use Rattle.words.specs.Falling.{Held, FallBacks, Filled, Follows, Advances};
 ghost use Rattle.matching.specs.Forms.{bands_of};
 
 use crate::Form;
@@ -46,19 +46,19 @@ pub fn fill_to(b: Form<'_>, falls: &mut [usize], n: usize, m: usize) -> usize
     m
 }
 
-// The match held at the end of a pass along the last k bands of a: the longest beginning of b that ends there. The row of
-// fall-backs is filled no further than the match has come.
-pub fn held_at_end(a: Form<'_>, k: usize, b: Form<'_>) -> usize
-    requires { (k ≤ length a.word.now) × (k ≤ 64) }
-    ensures { HeldAtEnd (bands_of a.entry) (bands_of b.entry) k result }
+// The match held at the end of a pass along a: the longest beginning of b that ends there. The row of fall-backs is filled no
+// further than the match has come.
+pub fn held_at_end(a: Form<'_>, b: Form<'_>) -> usize
+    requires { length a.word.now ≤ 64 }
+    ensures { Held (bands_of a.entry) (bands_of b.entry) (length a.entry.word.now) result }
 {
-    let start = a.len() - k;
     // A row of its own, filled while it is read: fixed memory, and never more bands than a code has.
     let mut falls = [0usize; MOST_HELD + 1];
     let mut filled = 1;
     let mut m = 0;
-    for i in 0..k {
-        m = go_on(b, &falls, m, a.band(start + i));
+    // Numbers, since a form is read from one end or the other.
+    for i in 0..a.len() {
+        m = go_on(b, &falls, m, a.band(i));
         filled = fill_to(b, &mut falls, filled, m);
     }
     m

@@ -1,12 +1,13 @@
-// A word read as given or turned, its bands, and two of them compared band by band.
+// A word read as given or turned, its bands, its last bands, and two of them compared band by band.
 ghost use Rattle.std.specs.Prelude.{◌≡◌, true, false, ◌-◌, ◌≤◌, ◌<◌, length, drop, get_or};
-ghost use Rattle.words.specs.Overlap.{agrees};
+ghost use Rattle.words.specs.Stand.{begins};
 ghost use Rattle.matching.specs.Forms.{bands_of};
 
 // A word as it is read. What is Copy and borrows has no model of its own, so contracts say what is read by `bands_of`.
 #[derive(Clone, Copy)]
 pub struct Form<'a> {
     pub word: &'a [u8],
+    // A flag and no enum of two: the word is the same both ways, and only `band` and `last` ask which it is.
     pub turned: bool,
 }
 
@@ -59,17 +60,10 @@ impl<'a> Form<'a> {
         }
     }
 
-    // The last k bands are the first k of another.
-    pub(crate) fn agrees(self, other: Form<'_>, k: usize) -> bool
-        requires { (k ≤ length self.word.now) × (k ≤ length other.word.now) }
-        ensures { result ≡ agrees (bands_of self.entry) (bands_of other.entry) k }
+    // All of it begins the other.
+    pub(crate) fn begins(self, other: Form<'_>) -> bool
+        ensures { result ≡ begins (bands_of self.entry) (bands_of other.entry) }
     {
-        let start = self.len() - k;
-        for i in 0..k {
-            if self.band(start + i) != other.band(i) {
-                return false;
-            }
-        }
-        true
+        self.len() <= other.len() && (0..self.len()).all(|i| self.band(i) == other.band(i))
     }
 }

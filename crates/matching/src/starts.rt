@@ -10,20 +10,14 @@ use crate::Form;
 pub fn begins_way(form: Form<'_>, s: &[u8]) -> bool
     ensures { result ≡ begins (bands_of form.entry) s.now }
 {
-    form.len() <= s.len() && form.agrees(Form::given(s), form.len())
+    form.begins(Form::given(s))
 }
 
 // The form stands at some start of s. A word of no bands stands at the end too.
 fn stands_way(form: Form<'_>, s: &[u8]) -> bool
     ensures { result ≡ stands_in (bands_of form.entry) s.now }
 {
-    // Numbers, since each start leaves another rest of the row.
-    for i in 0..s.len() {
-        if begins_way(form, &s[i..]) {
-            return true;
-        }
-    }
-    form.len() == 0
+    (0..s.len()).any(|i| begins_way(form, &s[i..])) || form.len() == 0
 }
 
 // One way of c or the other stands in s.

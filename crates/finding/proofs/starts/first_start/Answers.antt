@@ -1,5 +1,5 @@
 -- What the search knows at each turn is carried on by the lemmas of Searching, as the code goes.
-use mathlib.Core.Path.{◌≡◌, refl}
+use mathlib.Core.Path.{◌≡◌, refl, ap}
 use mathlib.Core.Bool.{true}
 use Prim.Native.Nat.{ℕ}
 use mathlib.Core.List.{List}
@@ -7,6 +7,8 @@ use lib.ListN.{length}
 use native.Mathlib.Omega.{arith}
 use Rattle.words.specs.Turn.{turned}
 use Rattle.words.proofs.Ways.{way_size}
+use Rattle.matching.proofs.Sizes.{form_size}
+use Rattle.matching.specs.declared.forms.Form.{Form}
 use Rattle.finding.proofs.Searching.{seeking_none, seeking_in, seeking_skip, seeking_jump, seeking_given}
 use Rattle.finding.proofs.Searching.{seeking_turned, seeking_nowhere, seeking_more, seeking_next, seeking_fall}
 use Rattle.finding.proofs.starts.first_start.Goals as goal
@@ -33,7 +35,9 @@ loop-j-init c =
 
 pub go_on-m-requires : goal.go_on-m-requires
 go_on-m-requires c =
-    rw (c.of-turned.ensures, c.turned.ensures, as_long) (seeking_in (as_long c.args.c.now) c.loop-j.invariant.2).0
+    let size = ap (λ (f : Form). length f.word.now) c.turned.ensures in
+    let m = (seeking_in (as_long c.args.c.now) c.loop-j.invariant.2).0 in
+    omega (arith, ap length c.of-turned.ensures, form_size c.turned.result, size, m)
 
 pub starts-preserved-then-j-eq0 : goal.starts-preserved-then-j-eq0
 starts-preserved-then-j-eq0 c =
@@ -55,7 +59,9 @@ starts-preserved c =
 
 pub go_on-m-requires-in-loop-j : goal.go_on-m-requires-in-loop-j
 go_on-m-requires-in-loop-j c =
-    rw (c.of-turned.ensures, c.turned.ensures, as_long) (seeking_in (as_long c.args.c.now) c.loop-j.invariant.2).0
+    let size = ap (λ (f : Form). length f.word.now) c.turned.ensures in
+    let m = (seeking_in (as_long c.args.c.now) c.loop-j.invariant.2).0 in
+    omega (arith, ap length c.of-turned.ensures, form_size c.turned.result, size, m)
 
 pub loop-j-preserved : goal.loop-j-preserved
 loop-j-preserved c =
