@@ -1,9 +1,9 @@
 -- Words cut from a run of bands by their lengths.
 use mathlib.Core.Path.{◌≡◌, refl, sym, ap, ◌∙◌}
-use mathlib.Core.List.{List, [], ◌∷◌, ◌++◌}
+use mathlib.Core.List.{List, [], ◌∷◌}
 use Prim.Native.Nat.{ℕ, zero, suc, ◌+◌, ◌*◌, ◌≤◌, ◌<◌}
 use native.Mathlib.Omega.{arith}
-use lib.ListN.{length, take, drop, get_or, length-append, length-map}
+use lib.ListN.{length, take, drop, get_or, length-map}
 use lib.Seq.{drop-drop}
 use Rattle.std.specs.Borrow.{Bor}
 use Rattle.std.proofs.Math.ListN.{get_or-map}
@@ -40,11 +40,6 @@ lent_at codes k e =
 
 pub lent_size : (codes : List (Bor (List ℕ))) {ks : List (List ℕ)} → lent codes ≡ ks → length codes ≡ length ks
 lent_size codes e = sym (length-map codes (λ (c : Bor (List ℕ)). c.now)) ∙ ap length e
-
--- a code behind others, of codes that are few
-pub one_more : (done : List (List ℕ)) (code : List ℕ) (rest : List (List ℕ)) {codes : List (List ℕ)} → done ++ code ∷ rest ≡ codes
-    → length codes ≤ 128 → length done < 128
-one_more done code rest e few = omega (arith, length-append done (code ∷ rest), ap length e, few)
 
 -- a code of a list that fits has some bands, and few
 pub fit_size : {run ls : List ℕ} → FitList run ls → (i : ℕ) → i < length ls → (1 ≤ get_or ls i 0) × (get_or ls i 0 ≤ 64)

@@ -1,7 +1,7 @@
 -- `Parts::kept`: code i goes behind those that are kept, or it is dropped.
 use Rattle.std.proofs.Common.{◌<◌, length, sym, ◌∙◌, arith}
 use Rattle.parts.proofs.Cutting.{lent_at, lent_size}
-use Rattle.parts.proofs.Sieving.{sieve_keep, sieve_drop, sieve_end}
+use Rattle.parts.proofs.Sieving.{sieve_keep, sieve_drop}
 use Rattle.parts.proofs.cuts.Parts.kept.Goals as goal
 use Rattle.parts.proofs.cuts.Parts.kept.Goals.{then-not-is_dropped, else-not-is_dropped}
 
@@ -15,6 +15,3 @@ loop-i-preserved c =
           (sieve_keep _ s here (sym c.is_dropped.ensures ∙ w.if-not-is_dropped.true))
       | else-not-is_dropped w ↦ rw w.kept-is (sieve_drop _ s here (sym c.is_dropped.ensures ∙ w.if-not-is_dropped.false))
     ]
-
-pub returns : goal.returns
-returns c = sieve_end _ c.loop-i.invariant (omega (arith, lent_size _ c.codes-code-items.ensures.same))

@@ -2,7 +2,7 @@
 use mathlib.Core.Path.{sym}
 use native.Mathlib.Omega.{arith}
 use Rattle.std.specs.declared.cmp.Ordering.TheVariants.{Equal}
-use Rattle.sorting.proofs.Rising.{side_less, side_not_less, others_rise, narrow_none, narrow_down, narrowed_behind}
+use Rattle.sorting.proofs.Rising.{side_less, others_rise, narrow_none, narrow_down}
 use Rattle.sorting.proofs.ranges.Risen.range_end.Goals as goal
 
 pub returns-then-lt : goal.returns-then-lt
@@ -14,9 +14,3 @@ returns-then-lt c =
 
 pub invariant_of-others : goal.invariant_of-others
 invariant_of-others c = record { rising = others_rise (rw c.in-Some.ensures.cases.0 at c.args.self.rising) }
-
-pub returns : goal.returns
-returns c =
-    let l = side_not_less Equal c.side.result (sym c.if-lt.ensures) in
-    let s = rw c.face.ensures at c.side.ensures in
-    rw c.in-Some.ensures.cases.0 (narrowed_behind _ _ _ _ (omega arith) c.first_place.ensures)
