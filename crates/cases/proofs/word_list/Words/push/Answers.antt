@@ -1,5 +1,5 @@
 -- `push`: the sizes still add up to the bytes.
-use Rattle.std.proofs.Common.{rules, ◌≡◌, ◌++◌, ◌∷◌, [], length}
+use Rattle.std.proofs.Common.{rules, ◌∷◌, [], length}
 use Rattle.lists.proofs.Runs.{total-append}
 use Rattle.cases.proofs.word_list.Words.push.Goals as goal
 
