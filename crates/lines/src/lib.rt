@@ -58,7 +58,7 @@ impl Line {
         }
     }
 
-    // It is written at the beginning of a row that has room for any line; the answer is its length, since a row is lent (no heap).
+    // Written at the beginning of a row that has room for any line. Its length is the answer, since the row is lent (no heap).
     pub fn write(self, row: &mut [u8]) -> usize
         requires { 32 ≤ length row.old }
         ensures { (result ≡ length (line_text self)) × (row.new ≡ over (line_text self) row.old) }

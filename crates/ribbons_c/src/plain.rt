@@ -3,7 +3,8 @@ ghost use Rattle.std.specs.Prelude.{◌≡◌};
 
 use ribbons::{Checked, Laid, Orders, Refusal, Wrote};
 
-// The refusal's row; how many codes there are, how many bands in them, and how many bytes of names. `refused` is a number, as C reads it.
+// The refusal's row; how many codes there are, how many bands in them, and how many bytes of names. `refused` is a number,
+// as C reads it.
 #[repr(C)]
 #[derive(Clone, Copy, Default)]
 pub struct RibbonsOrders {
