@@ -1,11 +1,12 @@
 -- A run cut into words and joined again is as before, and words joined into a run and cut again are as before: each by
 -- induction over the words, or over their lengths. And the part of a run between two marks.
 use mathlib.Core.Path.{◌≡◌, refl, ap, ◌∙◌}
-use mathlib.Core.List.{List, [], ◌∷◌, ◌++◌}
+use mathlib.Core.List.{List, [], ◌∷◌, ◌++◌, append_assoc}
 use Prim.Native.Nat.{ℕ, zero, suc, ◌+◌, ◌-◌, ◌≤◌, ◌<◌}
+use native.Mathlib.Numerals.{add-one}
 use native.Mathlib.Omega.{arith}
-use lib.ListN.{length, get_or, take, drop, length-append, length-drop, take-append-drop}
-use lib.Seq.{length-take-le, take_all, take_at, take-suc, drop_at}
+use lib.ListN.{length, get_or, take, drop, set, length-append, length-drop, take-append-drop}
+use lib.Seq.{length-take-le, take_all, take_at, take-suc, drop_at, drop-cons, set_at}
 use Rattle.words.specs.Written.{Written}
 use Rattle.lists.specs.Runs.{codes_in, total, flat, lengths, over}
 
@@ -68,12 +69,22 @@ over_written xs buffer =
     let e : length xs ≡ 0 + length xs = omega arith in
     record { after_is = ap (λ (n : ℕ). xs ++ drop n buffer) e; end_is = e }
 
--- Elements written over a list from its beginning, one after the other: after i of them the list is as long as it was.
+-- Elements written over a list from its beginning, one after the other: after i of them the list is as long as it was, and
+-- one more store is one more element written.
 module _ {A : Type 0} (all ys : List A) (i : ℕ) where
   pub length_over : i ≤ length all → i ≤ length ys → length (over (take i all) ys) ≡ length ys
   length_over h k =
       let l : length (take i all) ≡ i = length-take-le i all h in
       rw l (omega (arith, length-append (take i all) (drop i ys), l, length-drop i ys))
+
+  pub over_next : (d : A) → i < length all → i < length ys
+      → set (over (take i all) ys) i (get_or all i d) ≡ over (take (i + 1) all) ys
+  over_next d h k =
+      let l : length (take i all) ≡ i = length-take-le i all (omega arith) in
+      let m : length (take i all ++ (get_or all i d ∷ [])) ≡ suc i =
+      omega (arith, length-append (take i all) (get_or all i d ∷ [])) in
+      rw (add-one, take-suc all i d h, m, l, drop-cons ys i d k, append_assoc)
+      (set_at (take i all) (get_or ys i d) (drop (suc i) ys) (get_or all i d) i l)
 
 -- the part of a run from a mark to an end
 abbrev pub up_to : List ℕ → ℕ → ℕ → List ℕ

@@ -12,6 +12,7 @@ pub mod Starting
 pub mod Counting
 pub mod Ways
 pub mod Written
+pub mod Partly
 pub mod Impostors
 pub mod WrongPasses
 pub mod WrongCounts

@@ -5,9 +5,22 @@ use mathlib.Core.List.{List, [], ◌∷◌, ◌++◌, append_assoc}
 use Prim.Native.Nat.{ℕ, ◌+◌, ◌≤◌, ◌<◌}
 use native.Mathlib.Numerals.{add-one}
 use native.Mathlib.Omega.{arith}
-use lib.ListN.{length, take, drop, set, length-append}
+use lib.ListN.{length, take, drop, set, length-append, length-drop}
 use lib.Seq.{paste, length-take-le, take_at, take-length, drop-append-add, drop-drop, set_split}
 use Rattle.words.specs.Written.{Written}
+
+-- writing within a row keeps its length
+pub written_length : {row : List ℕ} {at : ℕ} {s after : List ℕ} {end : ℕ} → at + length s ≤ length row
+    → Written row at s after end → length after ≡ length row
+written_length {row} {at} {s} {after} h w =
+    let e : length after ≡ length (take at row ++ (s ++ drop (at + length s) row)) = rw w.after_is in
+    omega (
+      arith,
+      length-append (take at row) (s ++ drop (at + length s) row),
+      length-append s (drop (at + length s) row),
+      length-take-le at row (omega arith),
+      length-drop (at + length s) row,
+    )
 
 -- another name for what is written
 pub written_as : {row : List ℕ} {at : ℕ} {s t after : List ℕ} {end : ℕ} → t ≡ s → Written row at s after end
