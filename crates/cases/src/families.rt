@@ -6,7 +6,7 @@ use crate::codes::Codes;
 use crate::draws::Draws;
 use crate::letters::Letters;
 use arrayvec::ArrayVec;
-use lists::MOST_CODES;
+use lists::{MOST_CODE_BANDS, MOST_CODES};
 
 #[derive(Clone, Copy)]
 pub enum Family {
@@ -121,7 +121,7 @@ impl Plan {
                 part_of(self.word.as_slice(), n, draws)
             }
             Family::Full => {
-                let n = 64 - draws.below(8);
+                let n = MOST_CODE_BANDS - draws.below(8);
                 fresh(n, self.letters, draws)
             }
         }

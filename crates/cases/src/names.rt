@@ -4,10 +4,10 @@ ghost use Rattle.std.specs.Prelude.{◌≡◌, ◌*◌, ◌≤◌, length};
 use crate::draws::Draws;
 use crate::word_list::Words;
 use arrayvec::ArrayVec;
-use lists::MOST_NAME_BYTES;
+use lists::{MOST_NAME_BYTES, MOST_NAME_SIZE};
 
 // The bytes of a name; there is room for the longest.
-type Name = ArrayVec<u8, 24>;
+type Name = ArrayVec<u8, MOST_NAME_SIZE>;
 
 pub type Names = Words<MOST_NAME_BYTES>;
 

@@ -6,7 +6,7 @@ ghost use Rattle.grammar.specs.Orders.{head_fault_lem, entry_fault_lem};
 ghost use Rattle.rows.specs.Scans.{TakesRow};
 ghost use Rattle.entries.specs.Gathering.{ReadsTwo, ChecksRow};
 
-use lists::{Fault, MOST_CODES, Run};
+use lists::{Fault, MOST_CODE_BANDS, MOST_CODES, Run};
 use rows::{RowRead, read_row};
 
 // The row that begins here, where it has two fields of which this test finds no fault: they go to the beginnings of the
@@ -58,7 +58,7 @@ pub fn entry_fault(name: &[u8], code: &[u8], before: Run) -> Result<(), Fault>
     if code.is_empty() {
         return Err(Fault::NoBands);
     }
-    if 64 < code.len() {
+    if MOST_CODE_BANDS < code.len() {
         return Err(Fault::LongCode);
     }
     if !fitness::all_bands(code) {

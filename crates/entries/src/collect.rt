@@ -25,7 +25,7 @@ pub fn gather<'a>(
     requires { (0 < length file.now) × (length file.now ≤ 16384) }
     ensures { Gathers (read_orders_lem file.now) result }
 {
-    let head = check_row(file, names, bands, head_fault).map_err(|fault| in_row(fault, 1))?;
+    let head = check_row(file, names, bands, head_fault).map_err(|fault| fault.in_row(1))?;
     let mut rest = &file[head.size..];
     // three marks counted on: there is no heap to push to
     let mut codes: usize = 0;
@@ -36,9 +36,11 @@ pub fn gather<'a>(
         let (bytes, next_name) = names.split_at_mut(name_end);
         let (_, next_code) = bands.split_at_mut(code_end);
         let before = Run::new(bytes, &sizes[..codes]);
+        // at most 128 codes: it fits, and there is no error to give
         let line = (2 + codes) as u32;
         let test = |name: &[u8], code: &[u8]| entry_fault(name, code, before);
-        let row = check_row(rest, next_name, next_code, test).map_err(|fault| in_row(fault, line))?;
+        let row = check_row(rest, next_name, next_code, test).map_err(|fault| fault.in_row(line))?;
+        // at most 64 and 24, as the test found: both fit, and there is no error to give
         lengths[codes] = row.code as u16;
         sizes[codes] = row.name as u16;
         code_end += row.code;
@@ -53,10 +55,4 @@ pub fn gather<'a>(
         codes: Run::new(&bands[..code_end], &lengths[..codes]),
         names: Run::new(&names[..name_end], &sizes[..codes]),
     })
-}
-
-fn in_row(fault: Fault, row: u32) -> Refusal
-    ensures { result ≡ record { fault = fault; row = row } }
-{
-    Refusal { fault, row }
 }

@@ -8,6 +8,7 @@ ghost use Rattle.greedy.specs.Layout.{order_for};
 ghost use Rattle.parts.specs.Parts.{Short};
 
 use joining::{end_from, make_join, mirror_of, write_order};
+use lists::{MOST_CODE_BANDS, MOST_FACES};
 use parts::Parts;
 use sorting::Sorted;
 
@@ -15,7 +16,7 @@ use sorting::Sorted;
 #[derive(Drop)]
 pub(crate) struct Joining<'a> {
     pub(crate) sorted: Sorted<'a>,
-    pub(crate) after: [Option<usize>; 256],
+    pub(crate) after: [Option<usize>; MOST_FACES],
     pub(crate) ghost short: { Short sorted },
 }
 
@@ -52,7 +53,7 @@ impl Joining<'_> {
         requires { Unjoined (length self.old.sorted) (row_of self.old.after) }
         ensures { Joined self.old.sorted self.new }
     {
-        for o in (0..65).rev() {
+        for o in (0..MOST_CODE_BANDS + 1).rev() {
             self.join_faces_at(o);
         }
     }
@@ -68,7 +69,7 @@ pub fn order_faces(parts: &Parts<'_>, order: &mut [usize]) -> usize
     let n = parts.len();
     let mut joining = Joining {
         sorted: Sorted::of(parts),
-        after: [None; 256],
+        after: [None; MOST_FACES],
     };
     joining.run_pass();
     write_order(&joining.after, n, order)

@@ -4,7 +4,7 @@ ghost use Rattle.lists.specs.Runs.{total};
 ghost use Rattle.lists.specs.Fit.{lengths_ok_lem, list_ok_lem};
 
 use crate::texts::all_bands;
-use lists::{Fault, MOST_CODES, Run};
+use lists::{Fault, MOST_CODE_BANDS, MOST_CODES, Run};
 
 // A list of codes of which no clause of refusal 12 holds.
 #[derive(Clone, Copy)]
@@ -36,7 +36,9 @@ impl<'a> FitList<'a> {
 fn lengths_ok(lengths: &[u16]) -> bool
     ensures { result ≡ lengths_ok_lem lengths.now }
 {
-    lengths.iter().all(|n| (1..=64).contains(n))
+    lengths
+        .iter()
+        .all(|n| (1..=MOST_CODE_BANDS).contains(&usize::from(*n)))
 }
 
 // The lengths added up. There are too few of them for the sum to overflow.

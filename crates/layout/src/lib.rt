@@ -6,7 +6,7 @@ ghost use Rattle.layout.specs.Calls.{Gives, order_outcome, kept_outcome, LaysRib
 
 use faces::order_faces;
 use fitness::FitList;
-use lists::{Fault, Refusal};
+use lists::{Fault, MOST_FACES, Refusal};
 use parts::Parts;
 use spelling::Order;
 
@@ -18,12 +18,13 @@ fn lay_order(order: &Order<'_>, ribbon: &mut [u8]) -> Result<Laid, Refusal>
     ensures { Gives (order_outcome order.now.parts.now order.now.faces.now ribbon.old) ribbon.new result }
 {
     // What neighbours share, kept in fixed memory so that no overlap is looked for twice.
-    let mut skips = [0usize; 256];
+    let mut skips = [0usize; MOST_FACES];
     let sums = order.measure(&mut skips);
     if ribbon.len() < sums.bands {
         return Err(Fault::ShortBuffer.into());
     }
     order.write_bands(&skips, ribbon);
+    // at most 16,384 each: both fit, and there is no error to give
     Ok(Laid {
         bands: sums.bands as u32,
         saved: sums.saved as u32,
@@ -36,7 +37,7 @@ fn lay_kept(parts: &Parts<'_>, ribbon: &mut [u8]) -> Result<Laid, Refusal>
     ensures { Gives (kept_outcome parts.now ribbon.old) ribbon.new result }
 {
     // A row of fixed memory, as long as any order, and how much of it there is.
-    let mut order = [0usize; 256];
+    let mut order = [0usize; MOST_FACES];
     let count = order_faces(parts, &mut order);
     let order = Order {
         parts,

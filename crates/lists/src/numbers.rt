@@ -35,6 +35,15 @@ pub enum Fault {
     LongRibbon = 15,
 }
 
+impl Fault {
+    // In a row of a file.
+    pub fn in_row(self, row: u32) -> Refusal
+        ensures { result ≡ record { fault = self; row = row } }
+    {
+        Refusal { fault: self, row }
+    }
+}
+
 // A refusal: why, and in which row (0 where no row is meant). 0 and no Option: the line of a refusal and the answer for C
 // both show 0.
 #[derive(Clone, Copy, Debug, PartialEq, Eq)]

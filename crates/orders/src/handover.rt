@@ -25,6 +25,7 @@ pub fn hand_over(
     }
     put_run(all.codes, bands, lengths);
     put_run(all.names, names, sizes);
+    // at most 128 and 16,384, as the contract says: each fits, and there is no error to give
     Ok(Orders {
         codes: all.codes.sizes.len() as u32,
         bands: all.codes.bytes.len() as u32,

@@ -5,6 +5,7 @@ ghost use Rattle.sorting.specs.Sorted.{Begin};
 
 use crate::insertion::sort_in;
 use crate::ranges::Risen;
+use lists::MOST_FACES;
 use matching::Form;
 use parts::Parts;
 use std::cmp::Ordering;
@@ -15,7 +16,7 @@ use std::marker::Model;
 pub struct Sorted<'a> {
     parts: &'a Parts<'a>,
     // a row of fixed memory, as long as any list of faces
-    faces: [usize; 256],
+    faces: [usize; MOST_FACES],
 }
 
 impl<'a> Model for Sorted<'a> {
@@ -34,7 +35,7 @@ impl<'a> Sorted<'a> {
     pub fn of(parts: &'a Parts<'a>) -> Self
         ensures { result ≡ parts.now }
     {
-        let mut faces = [0; 256];
+        let mut faces = [0; MOST_FACES];
         for f in 0..2 * parts.len() {
             sort_in(parts, f, &mut faces);
         }
