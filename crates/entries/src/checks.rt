@@ -26,7 +26,8 @@ pub fn check_row<F: Fn(&[u8], &[u8]) -> Result<(), Fault>>(
     Ok(row)
 }
 
-// The two fields of the row that begins here: the faults 2 and 3 come first.
+// The two fields of the row that begins here: the faults 2 and 3 come first. The row as it was read, with its 2: another type
+// would be a copy of its other three numbers.
 fn read_two(here: &[u8], names: &mut [u8], bands: &mut [u8]) -> Result<RowRead, Fault>
     requires { TakesRow here.now names.old bands.old }
     ensures { ReadsTwo here.now names.new bands.new result }

@@ -2,7 +2,6 @@
 ghost use Rattle.std.specs.Prelude.{◌≡◌, ℕ, ◌*◌, ◌<◌, ◌≤◌, length, get_or};
 ghost use Rattle.joins.specs.Rows.{Row};
 ghost use Rattle.joining.specs.Joins.{row_of};
-ghost use Rattle.faces.specs.Passing.{LowestFollows, MayFollow, may_follow_lem, Lower, LowestAmong};
 
 use crate::pass::Joining;
 use joining::mirror_of;
@@ -19,18 +18,20 @@ struct Followers<'a> {
 }
 
 impl Followers<'_> {
+    ghost use Rattle.faces.specs.Passing.{Takes, takes_lem, Lower, LowestAmong};
+
     // b is one of them.
     fn has(self, b: usize) -> bool
         requires { b < 256 }
-        ensures { result ≡ may_follow_lem (row_of self.entry.after.now) self.entry.head self.entry.other b }
+        ensures { result ≡ takes_lem self.entry b }
     {
         b != self.head && b != self.other && self.after[mirror_of(b)].is_none()
     }
 
-    // b where it is below `best` and may follow, else `best`.
+    // b where it is below `best` and may follow, else `best`. Not by `min`: among Options none is the least.
     fn lower(self, b: usize, best: Option<usize>) -> Option<usize>
         requires { b < 256 }
-        ensures { Lower (MayFollow (row_of self.entry.after.now) self.entry.head self.entry.other) b best result }
+        ensures { Lower (Takes self.entry) b best result }
     {
         match best {
             Some(lowest) if lowest <= b => best,
@@ -42,7 +43,7 @@ impl Followers<'_> {
     // The lowest of some faces that may follow.
     fn lowest_among(self, faces: &[usize]) -> Option<usize>
         requires { (i : ℕ) → i < length faces.now → get_or faces.now i 0 < 256 }
-        ensures { LowestAmong (MayFollow (row_of self.entry.after.now) self.entry.head self.entry.other) faces.now result }
+        ensures { LowestAmong (Takes self.entry) faces.now result }
     {
         // Not by `filter` and `min`: tried, and that the test may be called at each turn, with a face, stays unproved.
         let mut best = None;
@@ -54,6 +55,8 @@ impl Followers<'_> {
 }
 
 impl Joining<'_> {
+    ghost use Rattle.faces.specs.Passing.{LowestFollows};
+
     // The lowest face that can come after a with o bands shared: of those that begin with a's last o bands.
     pub(crate) fn lowest_following(&self, a: usize, o: usize, head: usize) -> Option<usize>
         requires { Row (length self.now.sorted) (row_of self.now.after) × (a < 2 * length self.now.sorted) }

@@ -59,8 +59,8 @@ impl Joining<'_> {
     }
 }
 
-// The order of the parts' faces that joining gives, written at the beginning of order. How many faces it has: the row is lent,
-// since there is no heap.
+// The order of the parts' faces that joining gives, written at the beginning of order. How many faces it has, and not a slice of
+// them: without a heap the row is lent, and the clause speaks of all of it, what is behind the order too.
 pub fn order_faces(parts: &Parts<'_>, order: &mut [usize]) -> usize
     requires { Short parts.now × (256 ≤ length order.old) }
     ensures order { Wrote (order_for turned parts.now) order.old order.new result }

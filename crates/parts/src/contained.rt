@@ -30,6 +30,7 @@ impl<'a> Parts<'a> {
         ensures { result ≡ d.kept turned self.now }
     {
         let mut kept = Parts::none();
+        // a `for`: with nothing to collect into, a chain by `filter` would end in this push all the same
         for (i, code) in self.codes().iter().enumerate() {
             if !self.is_dropped(i) {
                 kept.push(code);

@@ -12,7 +12,8 @@ use matching::Form;
 use std::marker::Model;
 
 // So few codes as a list has, whatever their bands. Contracts see the list of them. Its memory is fixed, a row and a count: there
-// is no heap, and the library takes no type from outside std.
+// is no heap, and the library takes no type from outside std. That a code has at most 64 bands is no part of the invariant:
+// `cut` asks only that there is room, and takes words of any size.
 #[derive(Drop)]
 pub struct Parts<'a> {
     codes: [&'a [u8]; MOST_CODES],
@@ -86,7 +87,7 @@ impl<'a> Parts<'a> {
         self.codes()[k]
     }
 
-    // Face f: code f / 2 as given, or turned where f is odd.
+    // Face f: code f / 2 as given, or turned where f is odd. Document 01 gives code k the faces 2k and 2k + 1.
     pub fn face(&self, f: usize) -> Form<'a>
         requires { f < 2 * length self.now }
         ensures { bands_of result ≡ face_of turned self.now f }

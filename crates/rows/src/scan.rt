@@ -45,7 +45,8 @@ fn take_inside(b: u8) -> Step
     }
 }
 
-// Outside quotes, a quote apart; text says whether unquoted text may stand here.
+// Outside quotes, a quote apart; text says whether unquoted text may stand here. A bool: of the three places outside quotes,
+// the first two do alike with all other bytes.
 fn take_outside(text: bool, b: u8, next: Option<u8>) -> Step
     requires { b ≢ quote }
     ensures { (o : Outside) → takes_text o ≡ text → Takes (outside o) b next result }
@@ -73,8 +74,8 @@ fn take_byte(mode: Mode, b: u8, next: Option<u8>) -> Step
 }
 
 // The row that begins here, or none where it breaks the grammar: the contents of its first two fields go to the
-// beginnings of the buffers. Two buffers and no struct of them: one that holds a `&mut` needs a clause more in each function
-// that it is lent to, that the reference stays the same.
+// beginnings of the buffers. Two buffers and no struct of them: where one that holds a `&mut` is lent on, each contract on the
+// way has to say that the reference stays the same (as `at_last` does in the law of fields::Writer), here for two of them.
 pub fn read_row(here: &[u8], names: &mut [u8], bands: &mut [u8]) -> Option<RowRead>
     requires { TakesRow here.now names.old bands.old }
     ensures { ReadsRow here.now names.new bands.new result }
@@ -88,6 +89,7 @@ pub fn read_row(here: &[u8], names: &mut [u8], bands: &mut [u8]) -> Option<RowRe
     };
     for (i, &b) in here.iter().enumerate() {
         row.size = i + 1;
+        // the next byte by number, which is the row's size so far, and so is counted in any case: no `peekable`
         match take_byte(mode, b, here.get(i + 1).copied()) {
             Step::Comma => {
                 row.fields += 1;

@@ -11,7 +11,7 @@ use std::cmp::Ordering;
 pub(crate) fn side(c: Form<'_>, word: Form<'_>) -> Ordering
     ensures { ordering_index result ≡ side_of (bands_of c.entry) (bands_of word.entry) }
 {
-    // Numbers, since a form is read from one end or the other.
+    // Numbers, since a form is read from one end or the other: an iterator of its bands would be a type of its own.
     for i in 0..word.len() {
         if c.len() <= i {
             return Ordering::Less;

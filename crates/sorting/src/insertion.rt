@@ -1,5 +1,6 @@
 // Faces put in their places, one after the other. `sort_unstable_by` asks for a comparison that may be called with any two
-// numbers, and only faces can be compared.
+// numbers, and only faces can be compared. Pairs of a face and its form would be compared with no codes at hand, and would
+// take four times the fixed memory.
 ghost use Rattle.std.specs.Prelude.{◌+◌, ◌*◌, ◌≤◌, ◌<◌, length};
 ghost use Rattle.sorting.specs.Sorted.{SortedBelow, Inserted};
 

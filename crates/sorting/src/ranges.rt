@@ -1,8 +1,7 @@
 // Where the sorted faces that begin with a given word begin and end.
-ghost use Rattle.std.specs.Prelude.{length};
 ghost use Rattle.std.specs.Ordering.{ordering_index};
 ghost use Rattle.matching.specs.Forms.{bands_of};
-ghost use Rattle.sorting.specs.Sorted.{Rising, side_at, Narrowed};
+ghost use Rattle.sorting.specs.Sorted.{Rising, FirstPlace};
 
 use crate::compare::side;
 use matching::Form;
@@ -20,7 +19,7 @@ pub(crate) struct Risen<'a> {
 impl Risen<'_> {
     // The first that is on side `least` of a word, or on a later one.
     pub(crate) fn first_place(self, word: Form<'_>, least: Ordering) -> usize
-        ensures { Narrowed (side_at self.entry.parts.now self.entry.faces.now (bands_of word.entry)) (ordering_index least) (length self.entry.faces.now) result result }
+        ensures { FirstPlace self.entry.parts.now self.entry.faces.now (bands_of word.entry) (ordering_index least) result }
     {
         let mut low = 0;
         let mut high = self.faces.len();
@@ -38,7 +37,7 @@ impl Risen<'_> {
 
     // How many of them begin with a word, where none is before those that do. Mostly none does, as the first shows.
     pub(crate) fn range_end(self, word: Form<'_>) -> usize
-        ensures { Narrowed (side_at self.entry.parts.now self.entry.faces.now (bands_of word.entry)) 2 (length self.entry.faces.now) result result }
+        ensures { FirstPlace self.entry.parts.now self.entry.faces.now (bands_of word.entry) 2 result }
     {
         let Some((first, others)) = self.faces.split_first() else {
             return 0;

@@ -20,3 +20,10 @@ module _ (ks : List (List ℕ)) where
   pub record Skips (p skips : List ℕ) : Type 0 where
     pub room : length p ≤ length skips
     pub each : (i : ℕ) → i < length p → get_or skips i 0 ≡ skip_at_lem turned ks p i
+
+  -- both, where a row is lent for what is shared: what is behind it there stays
+  pub record Measured (p before after : List ℕ) (bands saved : ℕ) : Type 0 where
+    pub sums : Measures p bands saved
+    pub skips : Skips p after
+    pub as_long : length after ≡ length before
+    pub behind : (i : ℕ) → length p ≤ i → get_or after i 0 ≡ get_or before i 0

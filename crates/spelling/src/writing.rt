@@ -3,7 +3,7 @@ ghost use Rattle.std.specs.Prelude.{◌≡◌, ◌<◌, ◌≤◌, length};
 ghost use Rattle.words.specs.Turn.{turned};
 ghost use Rattle.lists.specs.Runs.{over};
 ghost use Rattle.greedy.specs.Reading.{skip_at_lem, read_piece};
-ghost use Rattle.spelling.specs.Ribbons.{InOrder, Measures, Skips};
+ghost use Rattle.spelling.specs.Ribbons.{InOrder, Measured, Skips};
 
 use parts::Parts;
 
@@ -38,8 +38,9 @@ impl Order<'_> {
     // The sums along the order: what each face adds, and what it shares, which goes into a row of its own.
     pub fn measure(&self, skips: &mut [usize]) -> Sums<usize>
         requires { length self.now.faces.now ≤ length skips.old }
-        ensures { Measures self.now.parts.now self.now.faces.now result.bands result.saved × Skips self.now.parts.now self.now.faces.now skips.new }
+        ensures { Measured self.now.parts.now self.now.faces.now skips.old skips.new result.bands result.saved }
     {
+        // by number, which `skip_at` asks for too: after a walk by `iter_mut` and `zip` the items of the row would not be known
         let mut bands = 0;
         let mut saved = 0;
         for (i, f) in self.faces.iter().enumerate() {
@@ -53,7 +54,8 @@ impl Order<'_> {
 
     // The ribbon at the beginning of a row that has room for it.
     pub fn write_bands(&self, skips: &[usize], ribbon: &mut [u8])
-        requires { Skips self.now.parts.now self.now.faces.now skips.now × (length (read_piece turned self.now.parts.now self.now.faces.now) ≤ length ribbon.old) }
+        requires skips { Skips self.now.parts.now self.now.faces.now skips.now }
+        requires room { length (read_piece turned self.now.parts.now self.now.faces.now) ≤ length ribbon.old }
         ensures { ribbon.new ≡ over (read_piece turned self.now.parts.now self.now.faces.now) ribbon.old }
     {
         let mut at = 0;

@@ -10,15 +10,15 @@ put_way-at-requires c =
     let l = c.loop-i in
     let h = c.loop-i-test.true in
     let size = way_size c.face.result.turned c.face.result.word.now in
-    let fits = write_fits c.args.self.now.in_order h c.face.ensures (c.requires.0.each l.i h) l.invariant.behind
-    {room = length l.ribbon} (omega (arith, c.requires.1)) in
+    let fits = write_fits c.args.self.now.in_order h c.face.ensures (c.requires.skips.each l.i h) l.invariant.behind
+    {room = length l.ribbon} (omega (arith, c.requires.room)) in
     (omega (arith, fits.0), omega (arith, fits.1))
 
 pub loop-i-preserved : goal.loop-i-preserved
 loop-i-preserved c =
     let l = c.loop-i in
     let h = c.loop-i-test.true in
-    let w = write_next c.args.self.now.in_order h c.face.ensures (c.requires.0.each l.i h) l.invariant.behind c.args.ribbon.now
+    let w = write_next c.args.self.now.in_order h c.face.ensures (c.requires.skips.each l.i h) l.invariant.behind c.args.ribbon.now
     l.invariant.written c.put_way-at.ensures in
     record { behind = w.0; written = w.1 }
 
