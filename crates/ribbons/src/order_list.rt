@@ -6,8 +6,8 @@ use fitness::{FitList, FitNames};
 use lists::{MOST_BANDS, MOST_CODES, MOST_NAME_BYTES, Refusal, Run};
 use orders::{Orders, read_orders};
 
-// How much was read, at the beginnings of buffers that suffice for any list: no heap, so fixed memory with the counts beside it.
-// Its codes and names are fit.
+// How much was read, at the beginnings of buffers that suffice for any list: no heap, so fixed memory with the counts beside it, as
+// read_orders fills slices that are lent and answers counts. Its codes and names are fit.
 #[derive(Drop)]
 pub struct OrderList {
     pub counts: Orders,

@@ -5,7 +5,7 @@ ghost use Rattle.programs.specs.Programs.{sheet_output_lem, WritesOver};
 ghost use Rattle.ribbons.specs.OrderLists.{codes_of, names_of};
 
 use crate::order_list::OrderList;
-use lines::Line;
+use lines::write_line;
 use lists::MOST_SHEET_BYTES;
 use writer::write_sheet;
 
@@ -15,12 +15,12 @@ fn sheet_text(list: &OrderList, out: &mut [u8]) -> usize
     ensures { WritesOver (sheet_text_lem (names_of list.now) (codes_of list.now)) out.old out.new result }
 {
     let fit = list.codes();
-    let named = list.names();
+    let names = list.names();
     let wrote = write_sheet(
         fit.codes.bytes,
         fit.codes.sizes,
-        named.names.bytes,
-        named.names.sizes,
+        names.names.bytes,
+        names.names.sizes,
         out,
     )
     .unwrap();
@@ -35,6 +35,6 @@ pub fn sheet_output(file: &[u8], out: &mut [u8; MOST_SHEET_BYTES]) -> usize
 {
     match OrderList::read(file) {
         Ok(list) => sheet_text(&list, out),
-        Err(r) => Line::Refused(r).write(out),
+        Err(r) => write_line(Err(r), out),
     }
 }

@@ -19,4 +19,4 @@ returns-in-Ok c =
 
 pub returns-in-Err : goal.returns-in-Err
 returns-in-Err c =
-    writes_refused (written c.args.ribbon_file.now) c.args.list.now _ c.in-Err.ensures c.write.ensures
+    writes_refused (written c.args.ribbon_file.now) c.args.list.now _ c.in-Err.ensures c.write_line.ensures

@@ -5,10 +5,10 @@ use Rattle.ribbons.proofs.sheet_printing.sheet_text.Goals as goal
 pub unwrap-wrote-requires : goal.unwrap-wrote-requires
 unwrap-wrote-requires c =
     sheet_accepted _ _ _ _ _ c.write_sheet.ensures c.codes-fit.result.fit
-    (rw (c.codes-fit.ensures.count, ← c.names-named.ensures.count) c.names-named.result.fit) c.requires
+    (rw (c.codes-fit.ensures.count, ← c.names-names.ensures.count) c.names-names.result.fit) c.requires
 
 pub returns : goal.returns
 returns c =
-    rw (← c.codes-fit.ensures.words, ← c.names-named.ensures.words)
+    rw (← c.codes-fit.ensures.words, ← c.names-names.ensures.words)
     (sheet_written _ _ _ _ _ c.write_sheet.ensures c.codes-fit.result.fit
-    (rw (c.codes-fit.ensures.count, ← c.names-named.ensures.count) c.names-named.result.fit) c.requires c.unwrap-wrote.ensures)
+    (rw (c.codes-fit.ensures.count, ← c.names-names.ensures.count) c.names-names.result.fit) c.requires c.unwrap-wrote.ensures)
