@@ -1,4 +1,5 @@
-// Answers as plain data, since no enum, Option or Result passes to C: what does not apply has the default, 0 or false.
+// Answers as plain data, since no enum, Option or Result passes to C: what does not apply has the default, 0 or false. The C header
+// has four structs, each with its own `refused`: so each says what it gives for a refusal, and two of them differ in one name.
 ghost use Rattle.std.specs.Prelude.{◌≡◌};
 
 use ribbons::{Checked, Laid, Orders, Refusal, Wrote};

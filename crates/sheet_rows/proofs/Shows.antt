@@ -27,11 +27,11 @@ use Rattle.greedy.specs.Dropping.{code_at}
 use Rattle.greedy.proofs.Keeping.{code_in_lem}
 use Rattle.places.specs.Calls.{way_at}
 use Rattle.places.specs.declared.Place.{Place}
+use Rattle.finding.specs.Answers.{start_of}
 use Rattle.finding.specs.declared.Way.{Way}
 use Rattle.finding.specs.declared.Way.TheVariants.{Given, Turned, Either}
 use Rattle.places.proofs.Finding.{nth_place, place_is}
 use Rattle.sheet_rows.specs.Shows.{unset, nth_shown, ShowsCode, ShowsCodes, HasPlace, AllPlaced}
-use Rattle.sheet_rows.specs.Placed.{start_of}
 use Rattle.sheet_rows.specs.declared.pieces.Shown.{Shown}
 
 module _ (c ribbon : List ℕ) where

@@ -3,7 +3,7 @@ ghost use Rattle.std.specs.Prelude.{◌<◌, ◌≤◌, ◌≡◌, length};
 ghost use Rattle.fields.specs.Sinks.{Fits, Puts};
 ghost use Rattle.sheet_rows.specs.Placed.{RowsThere};
 
-use crate::pieces::{Shown, put_places, put_way};
+use crate::pieces::{Shown, put_places, put_way_field};
 use fields::{Counter, Sink, put_decimal, put_field};
 use fitness::sum_of;
 use lists::Run;
@@ -44,7 +44,7 @@ impl Row<'_> {
         ensures { Puts S.kind sink.old (five_columns self.entry) sink.new }
     {
         put_field(self.name, sink);
-        put_way(self.way, sink);
+        put_way_field(self.way, sink);
         put_decimal(self.start, sink);
         sink.put(b",");
         sink.put(self.bands);
@@ -64,7 +64,8 @@ impl Row<'_> {
 impl Rows<'_> {
     ghost use Rattle.sheet_rows.specs.Sheets.{five_columns, nth};
 
-    // The row of code i. Its name starts behind those before it.
+    // The row of code i. Its name starts behind those before it; it is cut by its size, no item by `nth`: that a size of 16 bits is
+    // read here says that the name is short.
     fn row(&self, i: usize) -> Row<'_>
         requires { i < length self.now.lengths.now }
         ensures { five_columns result ≡ nth self.now i }
@@ -72,7 +73,7 @@ impl Rows<'_> {
         let from = sum_of(&self.names.sizes[..i]);
         let to = from + usize::from(self.names.sizes[i]);
         let shown = self.shown[i];
-        let start = shown.start();
+        let start = shown.way.start();
         let first = start as usize;
         let end = first + usize::from(self.lengths[i]);
         Row {

@@ -12,14 +12,15 @@ fn show_code(code: &[u8], ribbon: &[u8], way: Way) -> Shown
     ensures { ShowsCode code.now ribbon.now result }
 {
     let mut shown = Shown { way, places: 0 };
-    let start = shown.start() as usize;
+    let start = way.start() as usize;
     let places = count_from(code, ribbon, start);
     shown.places = places as u32;
     shown
 }
 
-// What is shown of each code of a fit list, in list order, by the records of their places. All three rows are as long as any
-// list may be, so that no memory is asked for: what is of a code has its number.
+// What is shown of each code of a fit list, in list order, by the records of their places. Records and what is shown are rows as
+// long as any list may be, so that no memory is asked for: what is of a code has its number. No zip with the records: what is shown
+// is written by number, and a record read by the same.
 pub fn show_codes(
     list: FitList<'_>,
     ribbon: &[u8],

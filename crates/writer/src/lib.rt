@@ -41,6 +41,7 @@ fn write_laid(
         return Err(Fault::ShortBuffer.into());
     }
     put_sheet(&rows, out);
+    // The size fits: no sheet has more than 17,181 bytes. No TryFrom: there is no error to give.
     Ok(Wrote {
         bytes: size as u32,
         saved,
@@ -60,9 +61,9 @@ pub fn write_sheet(
     ensures { WritesSheet bands.now lengths.now names.now sizes.now out.old out.new result }
 {
     let list = FitList::of(bands, lengths)?;
-    let named = FitNames::of(lengths.len(), names, sizes)?;
+    let fit_names = FitNames::of(lengths.len(), names, sizes)?;
     let mut ribbon = [0u8; lists::MOST_BANDS];
     let laid = lay_ribbon(bands, lengths, &mut ribbon)?;
     let count = laid.bands as usize;
-    write_laid(list, named, &ribbon[..count], laid.saved, out)
+    write_laid(list, fit_names, &ribbon[..count], laid.saved, out)
 }

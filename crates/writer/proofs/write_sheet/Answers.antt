@@ -15,13 +15,13 @@ returns-in_err-list c =
     let e = c.in_err-list.ensures in
     writes_false a.bands.now a.lengths.now a.names.now a.sizes.now a.out.now (rw e.0) (rw (p.1, p.2, e.1))
 
-pub returns-in_err-named : goal.returns-in_err-named
-returns-in_err-named c =
+pub returns-in_err-fit_names : goal.returns-in_err-fit_names
+returns-in_err-fit_names c =
     let a = c.args in
-    let p = err_from_is_err_and c.from_residual-in_err-named.result c.from_residual-in_err-named.ensures.1 in
+    let p = err_from_is_err_and c.from_residual-in_err-fit_names.result c.from_residual-in_err-fit_names.ensures.1 in
     let taken = c.in_ok-list.ensures in
     let ok = rw (taken.0, taken.1) at c.in_ok-list.list.fit in
-    let e = c.in_err-named.ensures in
+    let e = c.in_err-fit_names.ensures in
     let bad : (list_ok_lem a.bands.now a.lengths.now && names_ok_lem (length a.lengths.now) a.names.now a.sizes.now) ≡ false = cc in
     writes_false a.bands.now a.lengths.now a.names.now a.sizes.now a.out.now bad (rw (p.1, p.2, e.1))
 
@@ -36,9 +36,9 @@ pub returns : goal.returns
 returns c =
     let a = c.args in
     let taken = c.in_ok-list.ensures in
-    let named = c.in_ok-named.ensures in
+    let named = c.in_ok-fit_names.ensures in
     let ok = rw (taken.0, taken.1) at c.in_ok-list.list.fit in
-    let fit = c.in_ok-named.named.fit in
+    let fit = c.in_ok-fit_names.fit_names.fit in
     let names-ok : names_ok_lem (length a.lengths.now) a.names.now a.sizes.now ≡ true = cc in
     writes_laid a.bands.now a.lengths.now a.names.now a.sizes.now a.out.now _ ok names-ok (saved_is c.in_ok-laid.ensures)
     (rw (taken.0, taken.1, named.0, named.1) at c.write_laid.ensures)
