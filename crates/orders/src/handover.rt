@@ -9,7 +9,7 @@ use entries::Gathered;
 use lists::{Fault, Refusal, Run};
 
 // The answer, with the words that were gathered written into the lent buffers where each is long enough. Four buffers, as C
-// lends them.
+// lends them. A struct of two, a run and its lengths, was tried: moved in here, what they hold at the end stays unproved.
 pub fn hand_over(
     all: Gathered,
     bands: &mut [u8],
