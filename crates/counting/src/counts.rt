@@ -50,7 +50,7 @@ pub fn count_places(c: &[u8], s: &[u8]) -> usize
     if s.len() < n {
         return 0;
     }
-    // As in finding, with no struct of these: each is used alone, and it would be taken apart again at each step.
+    // No struct of these, shared with finding: there one pattern falls back, here both go on, so no step would be of it.
     let given = Pattern::of(Form::given(c));
     let turned = Pattern::of(Form::turned(c));
     let sum = sum_of(c);

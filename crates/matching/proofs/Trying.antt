@@ -1,7 +1,6 @@
 -- Trying the lengths of an overlap from the longest down: while none that was tried agrees, the overlap is the longest of
 -- those left, and a pass along so many bands finds it.
-use Rattle.std.proofs.Common.{◌≡◌, true, false, Bool, List, [], ◌∷◌, ℕ, suc, ◌+◌, ◌-◌, ◌≤◌, length, take, drop, length-drop, min, refl, sym, ap, ◌∙◌, arith}
-use native.Mathlib.Numerals.{add-one}
+use Rattle.std.proofs.Common.{◌≡◌, true, false, Bool, List, [], ◌∷◌, ℕ, zero, suc, ◌+◌, ◌-◌, ◌≤◌, ◌<◌, length, take, drop, length-drop, min, refl, sym, ap, subst, ◌∙◌, arith}
 use Rattle.std.specs.Prelude.{leb}
 use Rattle.words.specs.Decides.{Decides, yes, no}
 use Rattle.words.specs.Tests.{pick, same}
@@ -51,22 +50,30 @@ module _ (a b : List ℕ) where
       held_last a b n r m (omega arith) h
 
   -- the longest length left is tried, of the one's last bands f
-  module _ (k j : ℕ) (f : List ℕ) (n : k ≡ j + 1) (t : Tried a b k) (e : f ≡ drop (length a - (j + 1)) a) where
-    now : Tried a b (suc j)
-    now = rw (n ∙ add-one j) at t
+  module _ (f : List ℕ) where
+    test : (k : ℕ) → Tried a b k → f ≡ drop (length a - k) a → agrees a b k ≡ begins f b
+    test k t e = agrees_begins a b k t.in_left t.in_right ∙ ap (λ (x : List ℕ). begins x b) (sym e)
 
-    test : agrees a b (suc j) ≡ begins f b
-    test =
-        agrees_begins a b (suc j) now.in_left now.in_right
-        ∙ ap (λ (x : List ℕ). begins x b) (sym (e ∙ ap (λ (i : ℕ). drop (length a - i) a) (add-one j)))
+    hit : (k : ℕ) → 0 < k → Tried a b k → f ≡ drop (length a - k) a → begins f b ≡ true → k ≡ overlap a b
+    hit zero l t e h = absurd (omega (arith, l))
+    hit (suc j) l t e h = rw (test (suc j) t e, h, overlap_from) at t.left
 
-    pub tried_hit : begins f b ≡ true → j + 1 ≡ overlap a b
-    tried_hit h = add-one j ∙ (rw (test, h, overlap_from) at now.left)
+    miss : (k : ℕ) → 0 < k → Tried a b k → f ≡ drop (length a - k) a → begins f b ≡ false → Tried a b (k - 1)
+    miss zero l t e h = absurd (omega (arith, l))
+    miss (suc j) l t e h =
+        subst (Tried a b) (omega arith)
+        (record {
+          in_left = omega (arith, t.in_left);
+          in_right = omega (arith, t.in_right);
+          left = rw (test (suc j) t e, h, overlap_from) at t.left;
+        })
 
-    pub tried_miss : begins f b ≡ false → Tried a b j
-    tried_miss h =
-        record {
-          in_left = omega (arith, now.in_left);
-          in_right = omega (arith, now.in_right);
-          left = rw (test, h, overlap_from) at now.left;
-        }
+    module _ (m k : ℕ) (n : m ≡ k + 1) (l : 0 < k) (t : Tried a b (m - 1)) (e : f ≡ drop (length a - k) a) where
+      now : Tried a b k
+      now = subst (Tried a b) (omega (arith, n)) t
+
+      pub tried_hit : begins f b ≡ true → k ≡ overlap a b
+      tried_hit = hit k l now e
+
+      pub tried_miss : begins f b ≡ false → Tried a b (k - 1)
+      tried_miss = miss k l now e

@@ -17,7 +17,8 @@ fn follows(b: Form<'_>, k: usize, x: u8) -> bool
     k < b.len() && b.band(k) == x
 }
 
-// One band further: m bands of b are held, and x comes next. The row has the fall-backs from up to m bands.
+// One band further: m bands of b are held, and x comes next. The row has the fall-backs from up to m bands. No struct of form,
+// row and how far it is filled: `Pattern`, whose row is whole, would carry a count that its form tells already.
 pub fn go_on(b: Form<'_>, falls: &[usize], m: usize, x: u8) -> usize
     requires { (m ≤ length b.word.now) × FallBacks (bands_of b) falls.now m }
     ensures { Advances (bands_of b.entry) m x result }

@@ -60,7 +60,7 @@ impl<'a> Form<'a> {
         }
     }
 
-    // All of it begins the other.
+    // All of it begins the other. Numbers, since a form is read from one end or the other.
     pub(crate) fn begins(self, other: Form<'_>) -> bool
         ensures { result ≡ begins (bands_of self.entry) (bands_of other.entry) }
     {

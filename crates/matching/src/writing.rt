@@ -11,6 +11,7 @@ pub fn put_way(form: Form<'_>, skip: usize, row: &mut [u8], at: usize) -> usize
     ensures { Written row.old at (drop skip (bands_of form.entry)) row.new result }
 {
     let n = form.len() - skip;
+    // Numbers, since a form is read from one end or the other.
     for (j, band) in row[at..at + n].iter_mut().enumerate() {
         *band = form.band(skip + j);
     }

@@ -23,7 +23,7 @@ pub struct Place {
 }
 
 // The records of the codes that have a place, so many, at the front of a row: no list is longer than the row, and no memory is
-// asked for.
+// asked for. A count beside the row, since contracts tell what stands behind it as well: none is set there.
 #[derive(Drop)]
 pub struct Sought {
     pub count: usize,
@@ -40,7 +40,8 @@ pub fn blank() -> [Place; MOST_CODES]
     }; MOST_CODES]
 }
 
-// The places of the codes of a fit list, in list order, until one has none.
+// The places of the codes of a fit list, in list order, until one has none. No type of a list with a ribbon of so many bands:
+// verdicts knows the bound by a test and writer by the layout, and each would make the type only to hand it on.
 pub fn find_places(list: FitList<'_>, ribbon: &[u8]) -> Sought
     requires { length ribbon.now ≤ 16384 }
     ensures { FindsPlaces list.entry.codes.bytes.now list.entry.codes.sizes.now ribbon.now result.count result.records }

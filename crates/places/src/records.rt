@@ -11,7 +11,7 @@ use crate::Place;
 use finding::{Way, find_place};
 use fitness::FitList;
 
-// How often a code stands on the ribbon from a start on.
+// How often a code stands on the ribbon from a start on. 1 to 64 bands, and no type for it, as in finding.
 pub fn count_from(code: &[u8], ribbon: &[u8], start: usize) -> usize
     requires { (0 < length code.now) × (length code.now ≤ 64) × (start ≤ length ribbon.now) }
     ensures { result ≡ count_of turned code.now (drop start ribbon.now) }
@@ -31,7 +31,7 @@ fn narrow(way: Way<usize>) -> Way<u32>
     }
 }
 
-// The record of a code of a number, with its way and start.
+// The record of a code of a number, with its way and start. The number in fewer bits by `as`, as in `narrow`: it fits.
 pub fn record_of(way: Way<usize>, code: usize) -> Place
     requires { StartsWithin 16384 (way_at way) × (code < 128) }
     ensures { record_of_lem result ≡ record { code = code; place = way_at way } }
@@ -42,7 +42,7 @@ pub fn record_of(way: Way<usize>, code: usize) -> Place
     }
 }
 
-// The record of code i of a fit list, which has a place. Nothing calls it yet: `find_places` makes the records before it too.
+// The record of code i alone, which has a place, in a fit list. No call here wants one alone: `find_places` makes those of all.
 pub fn find_nth(list: FitList<'_>, ribbon: &[u8], i: usize) -> Place
     requires { HasPlace list.codes.bytes.now list.codes.sizes.now ribbon.now i }
     ensures { result ≡ place_for i (code_at (codes_in list.entry.codes.bytes.now list.entry.codes.sizes.now) i) ribbon.now }

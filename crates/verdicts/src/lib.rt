@@ -19,7 +19,8 @@ pub enum Checked {
 }
 
 // The answer of a check, or the refusal, 12, 15, 8 or 13; and the records that are due: so many, at the front of a row, which
-// suffices for any list, since no memory is asked for. Behind them none is set.
+// suffices for any list, since no memory is asked for. Behind them none is set, and contracts tell that too: so a count beside
+// the row.
 #[derive(Drop)]
 pub struct Findings {
     pub answer: Result<Checked, Refusal>,
@@ -41,7 +42,8 @@ fn without_records(answer: Result<Checked, Refusal>) -> Findings
 
 // Checks a ribbon that is supplied for a list of codes, as records::check_ribbon does where so many records are lent, and
 // hands the records that are due back by value. It refuses 12, 15, 8 and 13 as that does. The list comes as two slices, as C
-// passes it.
+// passes it. No inner function with `?`: that a code is missing is no refusal, so it would still return early, and its contract
+// would tell each case once more.
 pub fn check_places(bands: &[u8], lengths: &[u16], ribbon: &[u8], room: usize) -> Findings
     ensures { ChecksInRoom bands.now lengths.now ribbon.now room result.answer result.due result.records }
 {

@@ -37,7 +37,7 @@ pub fn computed_length(list: FitList<'_>) -> usize
     laid.bands as usize
 }
 
-// a minus b, below zero where b is the larger.
+// a minus b, below zero where b is the larger: document 01 names the form, an i32 difference from two lengths, which fit.
 pub fn difference(a: usize, b: usize) -> i32
     requires { (a ≤ 16384) × (b ≤ 16384) }
     ensures { result ≡ less a b }

@@ -39,7 +39,8 @@ fn fits(least: usize, sum: usize, w: Window) -> bool
 }
 
 // The next start that fits, none before the least that is left, or the last one of the row: a window of n bands moves on from
-// start to start.
+// start to start. Row, number of bands and sum are no struct: `window_at` needs no sum, and the searches read the row and the
+// number at each step themselves.
 pub fn next_fit(s: &[u8], n: usize, sum: usize, from: Window, least: usize) -> Window
     requires { (0 < n) × (n ≤ 64) × Windowed s.now n from.start from.sum }
     ensures { Windowed s.now n result.start result.sum × Skipped s.now n sum from.start least result.start }

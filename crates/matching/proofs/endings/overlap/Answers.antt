@@ -12,11 +12,11 @@ loop-k-init c =
 
 pub returns-then-begins : goal.returns-then-begins
 returns-then-begins c =
-    tried_hit _ _ _ _ _ (omega arith) c.loop-k.invariant c.last.ensures.bands (sym c.begins.ensures ∙ c.if-begins.true)
+    tried_hit _ _ _ _ _ (omega arith) (omega arith) c.loop-k.invariant c.last.ensures.bands (sym c.begins.ensures ∙ c.if-begins.true)
 
 pub loop-k-preserved : goal.loop-k-preserved
 loop-k-preserved c =
-    tried_miss _ _ _ _ _ (omega arith) c.loop-k.invariant c.last.ensures.bands (sym c.begins.ensures ∙ c.if-begins.false)
+    tried_miss _ _ _ _ _ (omega arith) (omega arith) c.loop-k.invariant c.last.ensures.bands (sym c.begins.ensures ∙ c.if-begins.false)
 
 pub returns : goal.returns
 returns c =
