@@ -59,8 +59,8 @@ impl Order<'_> {
         ensures { ribbon.new ≡ over (read_piece turned self.now.parts.now self.now.faces.now) ribbon.old }
     {
         let mut at = 0;
-        for (i, f) in self.faces.iter().enumerate() {
-            at = matching::put_way(self.parts.face(*f), skips[i], ribbon, at);
+        for (f, skip) in self.faces.iter().zip(skips) {
+            at = matching::put_way(self.parts.face(*f), *skip, ribbon, at);
         }
     }
 }
