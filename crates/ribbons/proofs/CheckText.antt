@@ -1,25 +1,22 @@
 -- The line of a check is the line of its answer: a fit list is not refused, and there is room for all of its records. So each
 -- answer that is left is one for which the program's claim has the line.
-use Rattle.std.proofs.Common.{◌≡◌, sym, ap, subst, ◌∙◌, true, List, [], ℕ, ◌≤◌, arith, ℤ, length, replicate, w32, to_z, of_z, Result, Ok}
+use Rattle.std.proofs.Common.{◌≡◌, subst, true, List, [], ℕ, ◌≤◌, arith, length, replicate, Result}
 use lib.ListN.{length-replicate, length-map}
-use mir.Val.{SFits}
-use mir.ValLaws.{to_z-of_z}
 use Rattle.words.proofs.Deciding.{holds}
 use Rattle.lists.specs.Refusals.{long_ribbon_number, unknown_colour_number}
-use Rattle.lists.specs.Runs.{codes_in, over}
+use Rattle.lists.specs.Runs.{codes_in}
 use Rattle.lists.specs.Fit.{list_ok_lem}
 use Rattle.lists.specs.declared.numbers.Refusal.{Refusal}
 use Rattle.lists.proofs.Rules.{codes_checked, is_fit_list}
 use Rattle.grammar.specs.RibbonFile.{ribbon_of_lem}
-use Rattle.checking.specs.Answers.{CheckAnswer, refused, missing_code, held, PlaceRecord, CheckOutcome, ChecksInto}
+use Rattle.checking.specs.Answers.{PlaceRecord, CheckOutcome, ChecksInto}
 use Rattle.checking.specs.Answers.{false_list, long_ribbon, no_colour, no_place, short_buffer, filled}
 use Rattle.places.specs.Calls.{record_of_lem, place_for}
 use Rattle.verdicts.specs.Calls.{answer_of, ChecksAlone}
 use Rattle.places.specs.declared.Place as declared
 use Rattle.verdicts.specs.declared.Checked.{Checked}
-use Rattle.verdicts.specs.declared.Checked.TheVariants.{Held}
 use Rattle.sheets.proofs.Decimal.{digits_ours}
-use Rattle.programs.specs.Programs.{refused_line_lem, held_line_lem, missing_line_lem, checked_line, WritesOver}
+use Rattle.programs.specs.Programs.{checked_line, WritesOver}
 use Rattle.programs.specs.Prints.{CheckLine}
 use Rattle.programs.specs.Prints as p
 use Rattle.programs.proofs.Prints.{line_ours, signed_ours, check_line_only}
