@@ -22,15 +22,18 @@ pub enum Family {
     Full,
 }
 
-impl From<&[u8]> for Family {
+impl TryFrom<&[u8]> for Family {
+    type Error = ();
+
     // By its first letter.
-    fn from(name: &[u8]) -> Self {
+    fn try_from(name: &[u8]) -> Result<Self, ()> {
         match name {
-            [b't', ..] => Family::Ties,
-            [b'p', ..] => Family::Palindromes,
-            [b'n', ..] => Family::Nested,
-            [b'c', ..] => Family::Chains,
-            _ => Family::Full,
+            [b't', ..] => Ok(Family::Ties),
+            [b'p', ..] => Ok(Family::Palindromes),
+            [b'n', ..] => Ok(Family::Nested),
+            [b'c', ..] => Ok(Family::Chains),
+            [b'f', ..] => Ok(Family::Full),
+            _ => Err(()),
         }
     }
 }
@@ -107,7 +110,8 @@ impl Plan {
         part_of(whole, n, draws)
     }
 
-    // The next code behind those that stand.
+    // The next code behind those that stand. A second match over the families: no trait with a type for each, since a family is read
+    // from a line and a value of one type goes through all cases.
     pub fn next_code(&self, codes: &Codes, draws: &mut Draws) -> Code {
         match self.family {
             Family::Ties => {

@@ -5,7 +5,7 @@ mod code; // one of a generated list
 mod codes; // all of them
 mod draws;
 mod families; // of generated lists
-mod fields; // what they stand for
+mod fields; // of a line: what they stand for
 mod letters; // of generated bands
 mod line; // of the file of cases
 mod names; // of a generated list

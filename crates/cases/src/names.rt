@@ -25,6 +25,7 @@ fn marks(draw: usize) -> &'static [u8]
 
 // The name of code i: the two letters of its number, and marks.
 fn name(i: usize, draws: &mut Draws) -> Name {
+    // each is below 26
     let letters = [b'a' + (i / 26 % 26) as u8, b'a' + (i % 26) as u8];
     let mut name = Name::new();
     let _ = name.try_extend_from_slice(&letters);

@@ -4,7 +4,8 @@ ghost use Rattle.std.specs.Prelude.{◌≡◌, ◌≤◌, ℕ, List, slice_index
 use crate::draws::Draws;
 use lists::{MOST_BANDS, MOST_CODES};
 
-// The room of this number in a line; 0 where the line has none.
+// The room of this number in a line; 0 where the line has none. No Option: no room lent is what a line leaves out, and the rooms
+// promise it. By position, as the file of cases writes them: no name stands there.
 fn room(numbers: &[u16], i: usize) -> usize
     ensures { result ≡ slice_index_or numbers.now i 0 }
 {

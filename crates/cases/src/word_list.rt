@@ -32,7 +32,7 @@ impl<const N: usize> Words<N> {
         ensures bytes { self.new.bytes.items ≡ self.old.bytes.items ++ word.now }
         ensures sizes { self.new.sizes.items ≡ self.old.sizes.items ++ length word.now ∷ [] }
     {
-        self.sizes.push(word.len() as u16);
+        self.sizes.push(word.len() as u16); // a word has at most 64
         let _ = self.bytes.try_extend_from_slice(word);
     }
 
@@ -54,7 +54,7 @@ impl<const N: usize> Words<N> {
         self.sizes.as_slice()
     }
 
-    // Word j; none where there is no such word.
+    // Word j; empty where there is no such word. No Option: it is asked for a word that stands, and could hand nothing on.
     pub(crate) fn word(&self, j: usize) -> &[u8] {
         Run::new(self.bytes(), self.sizes()).nth(j).unwrap_or(&[])
     }
