@@ -36,7 +36,7 @@ impl Item for Place {
     ghost marked = { place_mark };
 
     fn mark(i: usize) -> Self {
-        let n = (i % MOST_RECORDS) as u32;
+        let n = (i % MOST_RECORDS) as u32; // below 130
         let start = 2000 + n;
         let way = match i % 3 {
             1 => Way::Turned(start),

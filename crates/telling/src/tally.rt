@@ -21,7 +21,7 @@ impl Checksum {
         ensures { self.new.sum ≡ fed self.old.sum n }
     {
         let fed = u64::from(self.sum) * FACTOR + u64::from(n) + 1;
-        self.sum = (fed % MODULUS) as u32;
+        self.sum = (fed % MODULUS) as u32; // the modulus is below 2^32
     }
 
     // Another checksum goes into it.

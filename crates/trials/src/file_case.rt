@@ -17,6 +17,7 @@ fn tell_read(t: &mut Tally<impl Print>, file: &[u8], rooms: FileRooms) -> fmt::R
     let sizes = lend(&mut all_sizes, rooms.sizes);
     let read = ribbons::read_orders(file, bands, lengths, names, sizes);
     say_answer(t, "read", read)?;
+    // no `due`: a read fills four buffers
     let orders = read.unwrap_or_default();
     tell(t, "bands", bands, orders.bands as usize)?;
     tell(t, "lengths", lengths, orders.codes as usize)?;

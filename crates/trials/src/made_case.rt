@@ -1,29 +1,29 @@
 // A generated case: its list, its names, its ribbon and its rooms made, and run.
 use crate::list_case::ListCase;
 use cases::{Codes, Draws, Family, ListRooms, Names, draw_codes, draw_names, supply};
+use outcomes::due;
 use ribbons::{MOST_BANDS, MOST_SHEET_BYTES, lay_ribbon, write_sheet};
 use std::fmt;
 use telling::Tally;
 
-// The ribbon of a list, laid into a row; no band where it is refused.
+// The ribbon of a list, laid into a row; no band where it is refused, which the case itself tells.
 fn computed<'a>(codes: &Codes, row: &'a mut [u8]) -> &'a [u8] {
     let laid = lay_ribbon(codes.bytes(), codes.sizes(), row);
-    let n = laid.map_or(0, |laid| laid.bands as usize);
-    row.get(..n).unwrap_or(&[])
+    row.get(..due(laid, codes.count())).unwrap_or(&[])
 }
 
-// The length of the sheet of a list with names, or 0 where it is refused.
+// The length of the sheet of a list with names, or 0 where it is refused, which the case itself tells.
 fn sheet_length(codes: &Codes, names: &Names) -> usize {
     // no heap: a row of a fixed size, as callers lend it
     let mut sheet = [0u8; MOST_SHEET_BYTES];
-    write_sheet(
+    let wrote = write_sheet(
         codes.bytes(),
         codes.sizes(),
         names.bytes(),
         names.sizes(),
         &mut sheet,
-    )
-    .map_or(0, |wrote| wrote.bytes as usize)
+    );
+    due(wrote, codes.count())
 }
 
 // Runs case i of a line of a family, and tells it.

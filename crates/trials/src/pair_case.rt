@@ -9,6 +9,7 @@ pub fn run_pair(t: &mut Tally<impl Print>, list: &[u8], ribbon: &[u8]) -> fmt::R
     say_items(t, "list", list)?;
     say_items(t, "ribbon", ribbon)?;
     say_items(t, "bands", ribbons::ribbon_of(ribbon))?;
+    // as in file_case: a closure over an array of any length gets no proof
     let mut out = lent_row();
     let n = ribbons::check_output(list, ribbon, &mut out);
     tell(t, "check_output", &out, n)
