@@ -3,7 +3,7 @@
 
 use ribbons::{MOST_BANDS, MOST_FILE_BYTES};
 
-// one byte more shows that a file is too long
+// one byte more shows that a file is too long: said in each program, since `files` knows no limits and no call needs the room
 const ROOM: usize = MOST_FILE_BYTES + 1;
 
 // a ribbon and CR LF

@@ -3,7 +3,7 @@
 
 use ribbons::{MOST_FILE_BYTES, MOST_SHEET_BYTES};
 
-// one byte more shows that a file is too long
+// one byte more shows that a file is too long: said in each program, since `files` knows no limits and no call needs the room
 const ROOM: usize = MOST_FILE_BYTES + 1;
 
 // As in `print_ribbon`: all but the call and its row stands in `files` and in std.
