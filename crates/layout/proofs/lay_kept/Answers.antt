@@ -4,6 +4,3 @@ use Rattle.layout.proofs.lay_kept.Goals as goal
 
 pub invariant_of-order : goal.invariant_of-order
 invariant_of-order c = record { in_order = in_order _ c.order_faces-count.ensures.order c.order_faces-count.ensures.few c.requires }
-
-pub returns : goal.returns
-returns c = gives_ordered _ c.order_faces-count.ensures.order c.args.ribbon.now c.lay_order.ensures
