@@ -33,20 +33,3 @@ loop-i-preserved c =
       as_long = grind (arith, common_steps);
       behind = grind (arith, common_steps);
     }
-
-pub returns : goal.returns
-returns c =
-    let l = c.loop-i in
-    let p = c.args.self.now.faces.now in
-    let all : take l.i p ≡ p = take_all l.i p (omega arith) in
-    let few = c.args.self.now.in_order.few in
-    record {
-      sums = record {
-        long = rw (← all) l.invariant.long;
-        saves = rw (← all) l.invariant.saves;
-        small = (omega arith, omega arith);
-      };
-      skips = record { room = omega (arith, l.invariant.as_long); each = λ k h. l.invariant.each k (omega arith) };
-      as_long = l.invariant.as_long;
-      behind = λ k h. l.invariant.behind k (omega arith);
-    }
