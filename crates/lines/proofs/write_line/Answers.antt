@@ -11,6 +11,7 @@ use Rattle.lines.proofs.write_line.Goals as goal
 use Rattle.lines.proofs.write_line.Goals.{Start}
 
 -- what each number is below is known of the answer as a whole, by its case
+
 few : (c : Start) (x : Result Checked Refusal) → c.args.answer ≡ x → length (line_of (answer_of x)) ≤ 32
 few c (Err r) e = let below = rw e at c.well_formed.0 in refused_short r (omega (arith, below.1.1.1.1.0))
 few c (Ok (Held d)) e = let below = rw e at c.well_formed.0 in held_short d below.1.1.1.1.0.1.1.1.1.0.1
