@@ -10,6 +10,3 @@ written x = sheet_text_lem x.names x.codes
 
 pub returns-in-Ok : goal.returns-in-Ok
 returns-in-Ok c = writes_list written c.args.file.now c.in-Ok.ensures c.sheet_text.ensures
-
-pub returns-in-Err : goal.returns-in-Err
-returns-in-Err c = writes_refused written c.args.file.now _ c.in-Err.ensures c.write_line.ensures
