@@ -1,10 +1,12 @@
 -- The line of a check is the line of its answer: a fit list is not refused, and there is room for all of its records. So each
 -- answer that is left is one for which the program's claim has the line.
-use Rattle.std.proofs.Common.{◌≡◌, subst, true, List, [], ℕ, ◌≤◌, arith, length, replicate, Result}
+use Rattle.std.proofs.Common.{◌≡◌, sym, subst, true, List, [], ℕ, ◌≤◌, arith, ℤ, length, replicate, w32, to_z, of_z, Result, Ok}
 use lib.ListN.{length-replicate, length-map}
+use mir.Val.{SFits}
+use mir.ValLaws.{to_z-of_z}
 use Rattle.words.proofs.Deciding.{holds}
 use Rattle.lists.specs.Refusals.{long_ribbon_number, unknown_colour_number}
-use Rattle.lists.specs.Runs.{codes_in}
+use Rattle.lists.specs.Runs.{codes_in, over}
 use Rattle.lists.specs.Fit.{list_ok_lem}
 use Rattle.lists.specs.declared.numbers.Refusal.{Refusal}
 use Rattle.lists.proofs.Rules.{codes_checked, is_fit_list}
@@ -15,12 +17,14 @@ use Rattle.places.specs.Calls.{record_of_lem, place_for}
 use Rattle.verdicts.specs.Calls.{answer_of, ChecksAlone}
 use Rattle.places.specs.declared.Place as declared
 use Rattle.verdicts.specs.declared.Checked.{Checked}
+use Rattle.verdicts.specs.declared.Checked.TheVariants.{Held}
 use Rattle.sheets.proofs.Decimal.{digits_ours}
-use Rattle.programs.specs.Programs.{checked_line, WritesOver}
+use Rattle.programs.specs.Programs.{held_line_lem, checked_line, WritesOver}
 use Rattle.programs.specs.Prints.{CheckLine}
 use Rattle.programs.specs.Prints as p
 use Rattle.programs.proofs.Prints.{line_ours, signed_ours, check_line_only}
 use Rattle.lines.specs.Lines.{line_of}
+use Rattle.ribbons.proofs.Outputs.{writes_over}
 
 -- each case of the claim on a check is a case of the claim on the program's line
 module _ (run ls row : List ℕ) (ok : list_ok_lem run ls ≡ true) where
@@ -47,6 +51,15 @@ module _ (run ls row : List ℕ) (ok : list_ok_lem run ls ≡ true) where
   pub check_written : {r : Result Checked Refusal} {before after : List ℕ} {n : ℕ} → ChecksAlone run ls row r
       → WritesOver (line_of (answer_of r)) before after n → WritesOver (checked_line codes row) before after n
   check_written {before = before} {after} {n} p w = subst (λ (t : List ℕ). WritesOver t before after n) (line_is p) w
+
+  -- the difference is handed on as the number that its 32 bits are
+  pub held_checked : {r : Result Checked Refusal} {before after : List ℕ} {n : ℕ} (d : ℤ) → SFits w32 d → ChecksAlone run ls row r → r ≡ Ok (Held d)
+      → (n ≡ length (held_line_lem (to_z w32 (of_z w32 d)))) × (after ≡ over (held_line_lem (to_z w32 (of_z w32 d))) before)
+      → WritesOver (checked_line codes row) before after n
+  held_checked {before = before} {after} {n} d f p e w =
+      let g = to_z-of_z w32 d f in
+      let v = subst (λ (z : ℤ). (n ≡ length (held_line_lem z)) × (after ≡ over (held_line_lem z) before)) g w in
+      check_written p (subst (λ (c : Result Checked Refusal). WritesOver (line_of (answer_of c)) before after n) (sym e) (writes_over v.0 v.1))
 
 -- the ribbon is the one of the file
 pub of_file : (codes : List (List ℕ)) (file : List ℕ) {row before after : List ℕ} {n : ℕ} → row ≡ ribbon_of_lem file
