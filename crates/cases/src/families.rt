@@ -41,8 +41,8 @@ impl TryFrom<&[u8]> for Family {
 // The bands that a chain's codes are parts of.
 type Word = ArrayVec<u8, 99>;
 
-// What a list is made by: its family, how many codes are due, the letters of its bands, and for chains their word. That stands beside
-// the family, since an enum that holds it would name the other four again.
+// What a list is made by: its family, how many codes are due, the letters of its bands, and for chains their word. That stands
+// beside the family, since an enum that holds it would name the other four again.
 #[derive(Drop)]
 pub struct Plan {
     family: Family,
@@ -110,8 +110,8 @@ impl Plan {
         part_of(whole, n, draws)
     }
 
-    // The next code behind those that stand. A second match over the families: no trait with a type for each, since a family is read
-    // from a line and a value of one type goes through all cases.
+    // The next code behind those that stand. A second match over the families: no trait with a type for each, since a family is
+    // read from a line and a value of one type goes through all cases.
     pub fn next_code(&self, codes: &Codes, draws: &mut Draws) -> Code {
         match self.family {
             Family::Ties => {

@@ -64,8 +64,8 @@ impl From<&[u16]> for ListRooms {
 }
 
 impl ListRooms {
-    // The rooms of a generated case with a ribbon of so many bands, so many codes and a sheet of so many bytes: each is what is due, one
-    // less or some more, or for two of them the most. No case lends more than 130 records.
+    // The rooms of a generated case with a ribbon of so many bands, so many codes and a sheet of so many bytes: each is what is
+    // due, one less or some more, or for two of them the most. No case lends more than 130 records.
     pub fn draw(bands: usize, codes: usize, sheet: usize, draws: &mut Draws) -> Self
         ensures ribbon { bands ≤ 8192 → result.ribbon ≤ 8195 }
         ensures records { codes ≤ 128 → result.records ≤ 130 }

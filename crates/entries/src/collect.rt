@@ -1,5 +1,5 @@
 // Row after row: the names and codes of a file, one behind the other.
-ghost use Rattle.std.specs.Prelude.{◌≡◌, ◌≤◌, ◌<◌, length};
+ghost use Rattle.std.specs.Prelude.{◌≤◌, ◌<◌, length};
 ghost use Rattle.grammar.specs.Orders.{read_orders_lem};
 ghost use Rattle.entries.specs.Gathering.{Gathers};
 

@@ -19,7 +19,7 @@ pub fn put_way(form: Form<'_>, skip: usize, row: &mut [u8], at: usize) -> usize
 }
 
 // c is written on the row from `at` on; the answer is the place behind it.
-// No put_way of a given form: that is no shorter, and would ask at each byte which way the word is read.
+// One copy of the whole: `put_way` of a given form would ask at each byte which way the word is read.
 pub fn put_word(c: &[u8], row: &mut [u8], at: usize) -> usize
     requires { at + length c.now ≤ length row.old }
     ensures { Written row.old at c.now row.new result }

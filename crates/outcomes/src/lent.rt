@@ -44,8 +44,8 @@ pub fn say_items<T: Item>(t: &mut Tally<impl Print>, label: &str, items: &[T]) -
     writeln!(t, "{label},{},{}", items.len(), Listed(items))
 }
 
-// What is told of a lent buffer of which the first items, so many, are the result: these are said with how many of the others hold what
-// they held before; the others go into the checksum.
+// What is told of a lent buffer of which the first items, so many, are the result: these are said with how many of the others
+// hold what they held before; the others go into the checksum.
 pub fn tell<T: Item>(
     t: &mut Tally<impl Print>,
     label: &str,

@@ -26,8 +26,8 @@ pub fn sheet_size(rows: &Rows) -> usize
     put_heading(&mut heading);
     let mut size = heading.size;
 
-    // A count of each row, not one of all rows: that a count fits is known of a row whose numbers were read. By number as above; no sum
-    // of a map: by how much it may grow in each turn, so that it fits, is the loop's invariant.
+    // A count of each row, not one of all rows: that a count fits is known of a row whose numbers were read. By number as above;
+    // no sum of a map: by how much it may grow in each turn, so that it fits, is the loop's invariant.
     for code in 0..rows.lengths.len() {
         size += rows.nth_size(code);
     }

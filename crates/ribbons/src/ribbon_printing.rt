@@ -22,8 +22,8 @@ fn ribbon_line(list: &OrderList, out: &mut [u8]) -> usize
 }
 
 // The whole output, at the beginning of a row that has room for any: the ribbon of an order list and CR LF, or the line of
-// its refusal. How many bytes it has: a lent row with a count, since there is no heap. The match is that of the other programs: with
-// a closure for its middle the contract would be longer.
+// its refusal. How many bytes it has: a lent row with a count, since there is no heap. The match is that of the other programs:
+// with a closure for its middle the contract would be longer.
 pub fn ribbon_output(file: &[u8], out: &mut [u8; MOST_BANDS + 2]) -> usize
     ensures { WritesOver (ribbon_output_lem file.now) out.old out.new result }
 {

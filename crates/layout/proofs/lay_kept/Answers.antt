@@ -1,5 +1,5 @@
 -- `lay_kept`: the order found is the one of joining, so its ribbon is that of the kept codes.
-use Rattle.layout.proofs.Stages.{in_order, gives_ordered}
+use Rattle.layout.proofs.Stages.{in_order}
 use Rattle.layout.proofs.lay_kept.Goals as goal
 
 pub invariant_of-order : goal.invariant_of-order

@@ -2,7 +2,7 @@
 use Rattle.std.proofs.Common.{List, ℕ}
 use Rattle.grammar.specs.Files.{Orders}
 use Rattle.sheets.specs.Sheet.{sheet_text_lem}
-use Rattle.ribbons.proofs.Outputs.{writes_list, writes_refused}
+use Rattle.ribbons.proofs.Outputs.{writes_list}
 use Rattle.ribbons.proofs.sheet_printing.sheet_output.Goals as goal
 
 abbrev written : Orders → List ℕ

@@ -1,6 +1,6 @@
 -- `Followers::lowest_among`: one face after another is passed.
 use Rattle.std.proofs.Common.{◌≡◌, length, arith}
-use Rattle.faces.proofs.Picking.{lowest_none, lowest_next}
+use Rattle.faces.proofs.Picking.{lowest_next}
 use Rattle.faces.proofs.following.Followers.lowest_among.Goals as goal
 
 pub loop-b-preserved : goal.loop-b-preserved

@@ -1,7 +1,6 @@
 -- `Order::measure`: face i adds its bands but those that it shares.
-use Rattle.std.proofs.Common.{◌≡◌, sym, ◌∙◌, take, arith}
+use Rattle.std.proofs.Common.{sym, ◌∙◌, arith}
 use Rattle.std.proofs.lemmas.Grind.{common_steps}
-use Rattle.std.proofs.lemmas.List.{take_all}
 use Rattle.parts.proofs.Faces.{face_size, form_short}
 use Rattle.spelling.proofs.Steps.{skip_in, longer, saves}
 use Rattle.spelling.proofs.writing.Order.measure.Goals as goal
