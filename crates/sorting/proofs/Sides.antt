@@ -11,8 +11,8 @@ use lib.Dec.{ltb}
 use lib.ListN.{length, take, drop, get_or, length-append, length-drop, take-append-drop, drop_of_length-le}
 use lib.Seq.{drop-cons, drop_at}
 use borrow.Author.Tests.{ltb-true, ltb-false, lt-ltb, le-ltb}
-use Rattle.std.proofs.Common.{Ordering, Less, Equal, Greater, nat_cmp, true≢false}
-use Rattle.std.specs.Ordering.{ordering_index, is_ne}
+use Rattle.std.proofs.Common.{Ordering, Less, Greater, nat_cmp, ◌≢◌}
+use Rattle.std.specs.Ordering.{ordering_index}
 use Rattle.std.specs.Cmp.{nat_cmp_is}
 use Rattle.words.specs.Overlap.{Shares}
 use Rattle.sorting.specs.Sorted.{side_of, NotBefore, ending}
@@ -153,12 +153,12 @@ module _ {f x : List ℕ} {i : ℕ} (s : Siding f x i) where
     here = s.left ∙ ap (λ (w : List ℕ). side_of w (drop i x)) (drop-cons f i 0 m)
         ∙ ap (λ (w : List ℕ). side_of (get_or f i 0 ∷ drop (suc i) f) w) (next l)
 
-    siding_same : get_or f i 0 ≡ get_or x i 0 → Siding f x (i + 1)
+    pub siding_same : get_or f i 0 ≡ get_or x i 0 → Siding f x (i + 1)
     siding_same e =
         record { passed = omega arith; left = here ∙ side_same (drop (suc i) f) (drop (suc i) x) e ∙ rw add-one }
 
-    -- by how the two bands compare
-    pub siding_decides : {r : Ordering} → r ≡ nat_cmp (get_or f i 0) (get_or x i 0) → true ≡ is_ne r → ordering_index r ≡ side_of f x
+    -- of two bands that differ, the order
+    pub siding_decides : {r : Ordering} → r ≡ nat_cmp (get_or f i 0) (get_or x i 0) → get_or f i 0 ≢ get_or x i 0 → ordering_index r ≡ side_of f x
     siding_decides {r} e d = go (compare (get_or f i 0) (get_or x i 0))
       where
         go : (get_or f i 0 < get_or x i 0) ⊎ ((get_or x i 0 < get_or f i 0) ⊎ (get_or f i 0 ≡ get_or x i 0)) → ordering_index r ≡ side_of f x
@@ -168,13 +168,4 @@ module _ {f x : List ℕ} {i : ℕ} (s : Siding f x i) where
         go (inr (inl l)) =
             ap ordering_index (e ∙ sym (nat_cmp_is (get_or f i 0) (get_or x i 0) Greater l))
             ∙ sym (here ∙ side_more (drop (suc i) f) (drop (suc i) x) l)
-        go (inr (inr q)) =
-            absurd (true≢false (d ∙ ap is_ne (e ∙ sym (nat_cmp_is (get_or f i 0) (get_or x i 0) Equal q))))
-
-    pub siding_alike : {r : Ordering} → r ≡ nat_cmp (get_or f i 0) (get_or x i 0) → false ≡ is_ne r → Siding f x (i + 1)
-    siding_alike {r} e d = go (compare (get_or f i 0) (get_or x i 0))
-      where
-        go : (get_or f i 0 < get_or x i 0) ⊎ ((get_or x i 0 < get_or f i 0) ⊎ (get_or f i 0 ≡ get_or x i 0)) → Siding f x (i + 1)
-        go (inl l) = absurd (true≢false (sym (d ∙ ap is_ne (e ∙ sym (nat_cmp_is (get_or f i 0) (get_or x i 0) Less l)))))
-        go (inr (inl l)) = absurd (true≢false (sym (d ∙ ap is_ne (e ∙ sym (nat_cmp_is (get_or f i 0) (get_or x i 0) Greater l)))))
-        go (inr (inr q)) = siding_same q
+        go (inr (inr q)) = absurd (d q)

@@ -16,9 +16,11 @@ pub(crate) fn side(c: Form<'_>, word: Form<'_>) -> Ordering
         if c.len() <= i {
             return Ordering::Less;
         }
-        let order = c.band(i).cmp(&word.band(i));
-        if order.is_ne() {
-            return order;
+        let y = c.band(i);
+        let x = word.band(i);
+        // Alike or not, before the order: bands are mostly alike, and one comparison tells.
+        if y != x {
+            return y.cmp(&x);
         }
     }
     Ordering::Equal
