@@ -1,5 +1,5 @@
 // The rooms that a case lends.
-ghost use Rattle.std.specs.Prelude.{◌≡◌, ◌≤◌, ℕ, List, slice_index_or};
+ghost use Rattle.std.specs.Prelude.{◌≡◌, ◌≤◌, slice_index_or};
 
 use crate::draws::Draws;
 use lists::{MOST_BANDS, MOST_CODES};
