@@ -17,7 +17,8 @@ pub struct FitNames<'a> {
 impl<'a> FitNames<'a> {
     ghost use Rattle.fitness.specs.Lists.{TakesNames};
 
-    // The names of so many codes in a run of bytes with a length for each, where they are fit.
+    // The names of so many codes in a run of bytes with a length for each, where they are fit. Beside `FitList::of`, since a test
+    // of names asks for how many codes they are.
     pub fn of(codes: usize, names: &'a [u8], sizes: &'a [u16]) -> Result<Self, Fault>
         requires { codes ≤ 128 }
         ensures { TakesNames codes names.now sizes.now result }

@@ -14,6 +14,7 @@ fn show_code(code: &[u8], ribbon: &[u8], way: Way) -> Shown
     let mut shown = Shown { way, places: 0 };
     let start = way.start() as usize;
     let places = count_from(code, ribbon, start);
+    // no more than the ribbon has bands: it fits, and there is no error to give
     shown.places = places as u32;
     shown
 }

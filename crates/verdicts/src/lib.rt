@@ -54,6 +54,7 @@ pub fn check_places(bands: &[u8], lengths: &[u16], ribbon: &[u8], room: usize) -
     let sought = find_places(list, ribbon);
     let count = sought.count;
     if count < lengths.len() {
+        // by `as`: no list has more codes than fit
         return without_records(Ok(Checked::Missing(count as u32)));
     }
     if room < count {
