@@ -28,8 +28,3 @@ loop-i-preserved c =
     let v = c.band in
     let f = follows_from x.a.turned x.a.word.now c.loop-i.i v.result (omega arith) v.ensures in
     (search rules, passed_more h f c.go_on-m.ensures c.fill_to-filled.ensures)
-
-pub returns : goal.returns
-returns c =
-    let e : c.loop-i.i ≡ length c.args.a.word.now = omega arith in
-    rw e at c.loop-i.invariant.1.held
