@@ -17,9 +17,6 @@ returns-then-out-size c =
     sheet_short c.requires c.show_codes-shown.ensures c.sheet_size-size.ensures c.args.saved c.args.out.now
     c.if-out-size.true (rw c.into.ensures)
 
-pub put_sheet-requires : goal.put_sheet-requires
-put_sheet-requires c = omega (arith, c.sheet_size-size.ensures, c.if-out-size.false)
-
 pub overflow_cast-result : goal.overflow_cast-result
 overflow_cast-result c = omega (arith, size_short c.requires c.show_codes-shown.ensures c.sheet_size-size.ensures)
 
