@@ -8,6 +8,3 @@ pub unwrap-laid-requires : goal.unwrap-laid-requires
 unwrap-laid-requires c =
     let list = c.args.list in
     is_laid list.codes.bytes.now list.codes.sizes.now _ list.fit (search rules) _ c.lay_ribbon.ensures
-
-pub returns : goal.returns
-returns c = size_is (told c.lay_ribbon.ensures c.unwrap-laid.ensures)
