@@ -11,7 +11,7 @@ use Rattle.std.specs.Prelude.{Option, Some, None, IsSome, option_copied}
 use Rattle.std.specs.List.{slice_get}
 use Rattle.std.proofs.lemmas.Option.{slice_get-get_or, same_Some, none-some}
 use Rattle.words.specs.Turn.{turned}
-use Rattle.words.specs.Place.{Place, place_of, found}
+use Rattle.words.specs.Place.{place_of, found}
 use Rattle.words.proofs.Deciding.{holds}
 use Rattle.words.proofs.Lists.{each_in}
 use Rattle.lists.specs.Runs.{codes_in}
@@ -20,13 +20,10 @@ use Rattle.lists.proofs.Runs.{codes_count}
 use Rattle.lists.proofs.Rules.{is_fit_list}
 use Rattle.greedy.specs.Dropping.{code_at}
 use Rattle.greedy.proofs.Keeping.{code_in_lem}
-use Rattle.checking.specs.Answers.{PlaceRecord}
 use Rattle.finding.specs.declared.Way.{Way}
 use Rattle.finding.specs.Answers.{place_in}
-use Rattle.places.specs.declared.Place as declared
 use Rattle.places.specs.Starts.{StartsWithin}
-use Rattle.places.specs.Calls.{record_of_lem, place_for, HasPlace}
-use Rattle.places.proofs.Told.{record_one, place_told}
+use Rattle.places.specs.Calls.{HasPlace}
 use Rattle.places.proofs.Finding.{starts_within}
 
 -- what is found is there
@@ -74,14 +71,5 @@ module _ {run ls row : List ℕ} {i : ℕ} (h : HasPlace run ls row i) where
         is_place : place_in o ≡ place_of turned 0 (code_at (codes_in run ls) i) row
         is_place = f ∙ ap (λ (c : List ℕ). place_of turned 0 c row) is_code
 
-        pub one_stands : IsSome o
-        one_stands = is_some o (ap found is_place ∙ h.stands)
-
         pub one_starts : StartsWithin 16384 (place_in o)
         one_starts = subst (StartsWithin 16384) (sym is_place) (starts_within (code_at (codes_in run ls) i) row h.short h.stands)
-
-        pub one_found : {p : declared.Place} → record_of_lem p ≡ record { code = i; place = place_in o }
-            → p ≡ place_for i (code_at (codes_in run ls) i) row
-        one_found e =
-            record_one (e ∙ ap {B = PlaceRecord} (λ (q : Place). record { code = i; place = q }) is_place
-            ∙ sym (place_told i (code_at (codes_in run ls) i) row h.stands))

@@ -1,5 +1,5 @@
 -- `held_at_end`: each band of a leads from the match before it to the next.
-use Rattle.std.proofs.Common.{◌≡◌, length, refl, arith, rules}
+use Rattle.std.proofs.Common.{refl, arith, rules}
 use Rattle.matching.proofs.Sizes.{form_size}
 use Rattle.matching.proofs.Passing.{passed_none, passed_held, passed_row, passed_next, passed_more, follows_from}
 use Rattle.matching.proofs.falling.held_at_end.Goals as goal

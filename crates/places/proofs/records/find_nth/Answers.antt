@@ -3,7 +3,7 @@ use Rattle.std.proofs.Common.{◌≡◌, refl, option_copied}
 use Rattle.std.proofs.lemmas.Iterator.Consumers.{nth_from_yields_List, YieldsList-from_first}
 use Rattle.std.specs.List.{slice_get}
 use Rattle.lists.specs.Handed.{words_of}
-use Rattle.places.proofs.One.{few, nth_there, nth_size, one_stands, one_starts, one_found}
+use Rattle.places.proofs.One.{few, nth_there, nth_size, one_starts}
 use Rattle.places.proofs.records.find_nth.Goals as goal
 use Rattle.places.proofs.records.find_nth.Goals.{After-nth}
 

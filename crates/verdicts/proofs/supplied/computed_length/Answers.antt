@@ -1,6 +1,5 @@
 -- `supplied::computed_length`: 8,192 bands suffice for any ribbon, so a fit list is laid out, and the answer's length is its.
 use Rattle.std.proofs.Common.{rules}
-use Rattle.layout.proofs.Calls.{told, size_is}
 use Rattle.verdicts.proofs.Calls.{is_laid}
 use Rattle.verdicts.proofs.supplied.computed_length.Goals as goal
 
