@@ -45,7 +45,6 @@ reads_go m k f g js q e = ap (λ (x : ℕ). piece_from x f js) q ∙ read_go k f
 
 module _ {n : ℕ} {after : List ℕ} {f : ℕ} {before row : List ℕ} {at count : ℕ}
     (can : Row n after) (room : 256 ≤ length before) (r : Writing n after f before row at count) where
-
   -- one more face
   module _ (l : count < 2 * n) where
     abbrev new : List ℕ
