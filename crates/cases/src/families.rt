@@ -23,6 +23,7 @@ pub enum Family {
 }
 
 impl TryFrom<&[u8]> for Family {
+    // nothing more is to be said: the name is no family's
     type Error = ();
 
     // By its first letter.

@@ -36,7 +36,7 @@ fn spoil(ribbon: &mut [u8], draws: &mut Draws)
     if ribbon.is_empty() {
         return;
     }
-    let at = draws.next() % ribbon.len();
+    let at = draws.below(ribbon.len());
     ribbon[at] = b'Z';
 }
 

@@ -15,6 +15,7 @@ pub struct Gathered<'a> {
 
 // The heading, then the entries: each faultless entry is gathered in the buffers behind those before it.
 // Four buffers and no struct of them (tried): a struct's run, lent in two parts, bars its lengths from being lent too.
+// By `as`, at most 128 codes, 64 bands and 24 bytes of a name, as the test found: each fits, and there is no error to give.
 pub fn gather<'a>(
     file: &[u8],
     bands: &'a mut [u8; MOST_FILE_BYTES],
@@ -36,11 +37,9 @@ pub fn gather<'a>(
         let (bytes, next_name) = names.split_at_mut(name_end);
         let (_, next_code) = bands.split_at_mut(code_end);
         let before = Run::new(bytes, &sizes[..codes]);
-        // at most 128 codes: it fits, and there is no error to give
         let line = (2 + codes) as u32;
         let test = |name: &[u8], code: &[u8]| entry_fault(name, code, before);
         let row = check_row(rest, next_name, next_code, test).map_err(|fault| fault.in_row(line))?;
-        // at most 64 and 24, as the test found: both fit, and there is no error to give
         lengths[codes] = row.code as u16;
         sizes[codes] = row.name as u16;
         code_end += row.code;

@@ -1,20 +1,20 @@
 // The lowest face that can come after a face with so many bands shared, found among the sorted faces.
-ghost use Rattle.std.specs.Prelude.{◌≡◌, ℕ, ◌*◌, ◌<◌, ◌≤◌, length, get_or};
+ghost use Rattle.std.specs.Prelude.{◌≡◌, ℕ, ◌*◌, ◌<◌, length, get_or};
 ghost use Rattle.joins.specs.Rows.{Row};
 ghost use Rattle.joining.specs.Joins.{row_of};
 
 use crate::pass::Joining;
 use joining::mirror_of;
+use lists::MOST_FACES;
 
 // What may come after a face, whatever its bands.
 #[derive(Clone, Copy)]
 struct Followers<'a> {
-    after: &'a [Option<usize>],
+    after: &'a [Option<usize>; MOST_FACES],
     // the first face of the face's own piece
     head: usize,
     // the face's mirror
     other: usize,
-    ghost room: { 256 ≤ length after.now },
 }
 
 impl Followers<'_> {

@@ -60,7 +60,8 @@ impl Joining<'_> {
 }
 
 // The order of the parts' faces that joining gives, written at the beginning of order. How many faces it has, and not a slice of
-// them: without a heap the row is lent, and the clause speaks of all of it, what is behind the order too.
+// them: without a heap the row is lent, and the clause speaks of all of it, what is behind the order too. A slice: a row of just 256
+// would ask more of those who have longer ones.
 pub fn order_faces(parts: &Parts<'_>, order: &mut [usize]) -> usize
     requires { Short parts.now × (256 ≤ length order.old) }
     ensures order { Wrote (order_for turned parts.now) order.old order.new result }

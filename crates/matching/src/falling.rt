@@ -6,7 +6,8 @@ ghost use Rattle.matching.specs.Forms.{bands_of};
 
 use crate::Form;
 
-// The most bands that a pass can hold, as many as a code has. A number of its own: `lists`, which has the limits, is not below.
+// The most bands that a pass can hold, as many as a code has. A number of its own: for it alone
+// matching would rest on `lists`.
 pub const MOST_HELD: usize = 64;
 
 // Band x follows the first k bands of b. Nothing follows all of it.

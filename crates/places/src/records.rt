@@ -42,7 +42,8 @@ pub fn record_of(way: Way<usize>, code: usize) -> Place
     }
 }
 
-// The record of code i alone, which has a place, in a fit list. No call here wants one alone: `find_places` makes those of all.
+// The record of code i alone, which has a place, in a fit list. It stays for those who call it: here `find_places` makes those
+// of all.
 pub fn find_nth(list: FitList<'_>, ribbon: &[u8], i: usize) -> Place
     requires { HasPlace list.codes.bytes.now list.codes.sizes.now ribbon.now i }
     ensures { result ≡ place_for i (code_at (codes_in list.entry.codes.bytes.now list.entry.codes.sizes.now) i) ribbon.now }

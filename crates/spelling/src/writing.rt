@@ -40,7 +40,7 @@ impl Order<'_> {
         requires { length self.now.faces.now ≤ length skips.old }
         ensures { Measured self.now.parts.now self.now.faces.now skips.old skips.new result.bands result.saved }
     {
-        // by number, which `skip_at` asks for too: after a walk by `iter_mut` and `zip` the items of the row would not be known
+        // by number, which `skip_at` asks for: the walk is along the faces, and the row beside them is filled by the same number
         let mut bands = 0;
         let mut saved = 0;
         for (i, f) in self.faces.iter().enumerate() {

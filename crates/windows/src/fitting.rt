@@ -12,8 +12,8 @@ pub struct Window {
     pub sum: usize,
 }
 
-// The bands of a word added up. Beside fitness's sum of lengths: a sum of both would be longer than its one line, and lie below
-// both crates.
+// The bands of a word added up. Beside fitness's sum of lengths: one sum of both, generic in the item, would be longer than
+// the two lines.
 pub fn sum_of(c: &[u8]) -> usize
     requires { length c.now ≤ 64 }
     ensures { result ≡ total c.now }
