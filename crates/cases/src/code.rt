@@ -2,16 +2,16 @@
 use crate::draws::Draws;
 use crate::letters::Letters;
 use arrayvec::ArrayVec;
+use lists::MOST_CODE_BANDS;
+use std::iter;
 
 // The bands of a code; there is room for the longest.
-pub type Code = ArrayVec<u8, 64>;
+pub type Code = ArrayVec<u8, MOST_CODE_BANDS>;
 
 // So many drawn bands.
 pub fn fresh<const N: usize>(n: usize, letters: Letters, draws: &mut Draws) -> ArrayVec<u8, N> {
     let mut bands = ArrayVec::new();
-    for _ in 0..n {
-        let _ = bands.try_push(letters.draw(draws));
-    }
+    let _ = bands.extend(iter::repeat_with(|| letters.draw(draws)).take(n));
     bands
 }
 

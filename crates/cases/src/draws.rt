@@ -28,8 +28,10 @@ impl Draws {
         self.state
     }
 
-    // The next draw out of n; 0 where n is.
+    // The next draw out of n. Where n is 0, 0 and no Option: a draw is taken all the same, and what it picks from is empty.
     pub fn below(&mut self, n: usize) -> usize
+        ensures state { self.new.state ≡ self.old.state % 2147483647 * 48271 % 2147483647 }
+        ensures value { 0 < n → result ≡ self.new.state % n }
         ensures below { 0 < n → result < n }
         ensures at_most { result ≤ n }
     {

@@ -1,10 +1,12 @@
 // The families of generated lists: how many codes a list has, and how each is made.
+ghost use Rattle.std.specs.Prelude.{◌≤◌};
+
 use crate::code::{Code, fresh, palindrome, part_of};
 use crate::codes::Codes;
 use crate::draws::Draws;
 use crate::letters::Letters;
 use arrayvec::ArrayVec;
-use lists::MOST_CODES;
+use lists::{MOST_CODE_BANDS, MOST_CODES};
 
 #[derive(Clone, Copy)]
 pub enum Family {
@@ -20,15 +22,19 @@ pub enum Family {
     Full,
 }
 
-impl From<&[u8]> for Family {
+impl TryFrom<&[u8]> for Family {
+    // nothing more is to be said: the name is no family's
+    type Error = ();
+
     // By its first letter.
-    fn from(name: &[u8]) -> Self {
+    fn try_from(name: &[u8]) -> Result<Self, ()> {
         match name {
-            [b't', ..] => Family::Ties,
-            [b'p', ..] => Family::Palindromes,
-            [b'n', ..] => Family::Nested,
-            [b'c', ..] => Family::Chains,
-            _ => Family::Full,
+            [b't', ..] => Ok(Family::Ties),
+            [b'p', ..] => Ok(Family::Palindromes),
+            [b'n', ..] => Ok(Family::Nested),
+            [b'c', ..] => Ok(Family::Chains),
+            [b'f', ..] => Ok(Family::Full),
+            _ => Err(()),
         }
     }
 }
@@ -36,18 +42,22 @@ impl From<&[u8]> for Family {
 // The bands that a chain's codes are parts of.
 type Word = ArrayVec<u8, 99>;
 
-// What a list is made by: its family, how many codes are due, the letters of its bands, and for chains their word. That stands beside
-// the family, since an enum that holds it would name the other four again.
+// What a list is made by: its family, how many codes are due, the letters of its bands, and for chains their word. That stands
+// beside the family, since an enum that holds it would name the other four again.
 #[derive(Drop)]
 pub struct Plan {
     family: Family,
     pub due: usize,
     letters: Letters,
     word: Word,
+    ghost some: { 2 ≤ due },
+    ghost few: { due ≤ 128 },
 }
 
 impl Plan {
-    fn new(family: Family, due: usize, letters: Letters) -> Self {
+    fn new(family: Family, due: usize, letters: Letters) -> Self
+        requires { (2 ≤ due) × (due ≤ 128) }
+    {
         Plan {
             family,
             due,
@@ -96,12 +106,13 @@ impl Plan {
             let n = 1 + draws.below(10);
             return fresh(n, self.letters, draws);
         }
-        let whole = codes.code(draws.below(codes.count()));
+        let whole = codes.word(draws.below(codes.count()));
         let n = 1 + draws.below(whole.len());
         part_of(whole, n, draws)
     }
 
-    // The next code behind those that stand.
+    // The next code behind those that stand. A second match over the families: no trait with a type for each, since a family is
+    // read from a line and a value of one type goes through all cases.
     pub fn next_code(&self, codes: &Codes, draws: &mut Draws) -> Code {
         match self.family {
             Family::Ties => {
@@ -115,7 +126,7 @@ impl Plan {
                 part_of(self.word.as_slice(), n, draws)
             }
             Family::Full => {
-                let n = 64 - draws.below(8);
+                let n = MOST_CODE_BANDS - draws.below(8);
                 fresh(n, self.letters, draws)
             }
         }

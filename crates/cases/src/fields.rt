@@ -24,7 +24,8 @@ struct Reading {
     times: usize,
 }
 
-// The value of a digit; 0 where it is none.
+// The value of a digit; 0 where it is none. No Option: the None of those who ask is a byte that is not whole yet, and the reference
+// runs no file that has another character here.
 fn digit(b: u8, radix: u32) -> usize
     requires { (2 ≤ radix) × (radix ≤ 36) }
 {
@@ -76,7 +77,7 @@ impl Reading {
             Next::Plain => self.plain(b),
             Next::Count(n) => self.count(n, b),
             Next::Escape => self.escape(b),
-            Next::LowDigit(high) => self.whole((high % 16 * 16 + digit(b, 16) % 16) as u8),
+            Next::LowDigit(high) => self.whole((high % 16 * 16 + digit(b, 16) % 16) as u8), // two digits fit
         }
     }
 }
@@ -97,28 +98,23 @@ pub fn read_bytes<const N: usize>(field: &[u8]) -> ArrayVec<u8, N> {
     row
 }
 
-// The number that a field is; 0 where it is none.
-pub fn read_number(field: &[u8]) -> usize {
-    let Ok(text) = str::from_utf8(field) else {
-        return 0;
-    };
-    text.parse().unwrap_or(0)
+// The number that a field is, if it is one.
+pub fn read_number(field: &[u8]) -> Option<usize> {
+    str::from_utf8(field).ok()?.parse().ok()
 }
 
-// The numbers that a field stands for, as many as there is room for.
-pub fn read_numbers<const N: usize>(field: &[u8]) -> ArrayVec<u16, N> {
+// The numbers that a field stands for, as many as there is room for; None where one of them is none.
+pub fn read_numbers<const N: usize>(field: &[u8]) -> Option<ArrayVec<u16, N>> {
+    let text = str::from_utf8(field).ok()?;
     let mut row = ArrayVec::new();
-    let Ok(text) = str::from_utf8(field) else {
-        return row;
-    };
     // an empty field has no number
     if text.is_empty() {
-        return row;
+        return Some(row);
     }
     for part in text.split(',') {
         let (times, number) = part.split_once('x').unwrap_or(("1", part));
-        let number: u16 = number.parse().unwrap_or(0);
-        let _ = row.extend(iter::repeat_n(number, times.parse().unwrap_or(0)));
+        let number: u16 = number.parse().ok()?;
+        let _ = row.extend(iter::repeat_n(number, times.parse().ok()?));
     }
-    row
+    Some(row)
 }

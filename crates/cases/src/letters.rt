@@ -13,7 +13,7 @@ impl Letters {
     // The next band.
     pub fn draw(self, draws: &mut Draws) -> u8 {
         match self {
-            Letters::First(n) => b'A' + (draws.below(n) % 26) as u8,
+            Letters::First(n) => b'A' + (draws.below(n) % 26) as u8, // below 26
             Letters::NearlyEqual if draws.below(32) == 0 => b'B',
             Letters::NearlyEqual => b'A',
         }

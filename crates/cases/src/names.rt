@@ -1,17 +1,20 @@
 // The names of a generated list.
-use crate::draws::Draws;
-use arrayvec::ArrayVec;
-use lists::{MOST_CODES, MOST_NAME_BYTES};
+ghost use Rattle.std.specs.Prelude.{◌≡◌, ◌*◌, ◌≤◌, length};
 
-// The bytes of all names, and the size of each.
-#[derive(Drop)]
-pub struct Names {
-    bytes: ArrayVec<u8, MOST_NAME_BYTES>,
-    sizes: ArrayVec<u16, MOST_CODES>,
-}
+use crate::draws::Draws;
+use crate::word_list::Words;
+use arrayvec::ArrayVec;
+use lists::{MOST_NAME_BYTES, MOST_NAME_SIZE};
+
+// The bytes of a name; there is room for the longest.
+type Name = ArrayVec<u8, MOST_NAME_SIZE>;
+
+pub type Names = Words<MOST_NAME_BYTES>;
 
 // What a name has behind its letters.
-fn marks(draw: usize) -> &'static [u8] {
+fn marks(draw: usize) -> &'static [u8]
+    ensures { length result.now ≤ 22 }
+{
     match draw % 8 {
         0 => b",",
         1 => b"\"",
@@ -20,33 +23,26 @@ fn marks(draw: usize) -> &'static [u8] {
     }
 }
 
-impl Names {
-    // The names of so many codes.
-    pub fn draw(count: usize, draws: &mut Draws) -> Self {
-        let mut names = Names {
-            bytes: ArrayVec::new(),
-            sizes: ArrayVec::new(),
-        };
-        for i in 0..count {
-            names.push(i, marks(draws.next()));
-        }
-        names
-    }
+// The name of code i: the two letters of its number, and marks.
+fn name(i: usize, draws: &mut Draws) -> Name {
+    // each is below 26
+    let letters = [b'a' + (i / 26 % 26) as u8, b'a' + (i % 26) as u8];
+    let mut name = Name::new();
+    let _ = name.try_extend_from_slice(&letters);
+    let _ = name.try_extend_from_slice(marks(draws.next()));
+    name
+}
 
-    // The name of code i: the two letters of its number, and marks; there is room for it.
-    fn push(&mut self, i: usize, marks: &[u8]) {
-        let letters = [b'a' + (i / 26 % 26) as u8, b'a' + (i % 26) as u8];
-        let _ = self.bytes.try_extend_from_slice(&letters);
-        let _ = self.bytes.try_extend_from_slice(marks);
-        let size = letters.len().saturating_add(marks.len());
-        let _ = self.sizes.try_push(u16::try_from(size).unwrap_or(0));
+// The names of so many codes.
+pub fn draw_names(count: usize, draws: &mut Draws) -> Names
+    requires { count ≤ 128 }
+    ensures each { length result.sizes.items ≡ count }
+    ensures short { length result.bytes.items ≤ 24 * count }
+{
+    let mut names = Names::new();
+    // no chain: each name goes into two rows
+    for i in 0..count {
+        names.push(name(i, draws).as_slice());
     }
-
-    pub fn bytes(&self) -> &[u8] {
-        self.bytes.as_slice()
-    }
-
-    pub fn sizes(&self) -> &[u16] {
-        self.sizes.as_slice()
-    }
+    names
 }

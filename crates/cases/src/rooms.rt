@@ -1,9 +1,14 @@
 // The rooms that a case lends.
+ghost use Rattle.std.specs.Prelude.{◌≡◌, ◌≤◌, slice_index_or};
+
 use crate::draws::Draws;
 use lists::{MOST_BANDS, MOST_CODES};
 
-// The room of this number in a line; 0 where the line has none.
-fn room(numbers: &[u16], i: usize) -> usize {
+// The room of this number in a line; 0 where the line has none. No Option: no room lent is what a line leaves out, and the rooms
+// promise it. By position, as the file of cases writes them: no name stands there.
+fn room(numbers: &[u16], i: usize) -> usize
+    ensures { result ≡ slice_index_or numbers.now i 0 }
+{
     numbers.get(i).copied().map_or(0, usize::from)
 }
 
@@ -17,6 +22,13 @@ pub struct FileRooms {
 }
 
 impl From<&[u16]> for FileRooms {
+    ghost from_gives = { λ n r. r ≡ record {
+      bands = slice_index_or n.now 0 0;
+      lengths = slice_index_or n.now 1 0;
+      names = slice_index_or n.now 2 0;
+      sizes = slice_index_or n.now 3 0;
+    } };
+
     fn from(numbers: &[u16]) -> Self {
         FileRooms {
             bands: room(numbers, 0),
@@ -36,6 +48,12 @@ pub struct ListRooms {
 }
 
 impl From<&[u16]> for ListRooms {
+    ghost from_gives = { λ n r. r ≡ record {
+      ribbon = slice_index_or n.now 0 0;
+      records = slice_index_or n.now 1 0;
+      sheet = slice_index_or n.now 2 0;
+    } };
+
     fn from(numbers: &[u16]) -> Self {
         ListRooms {
             ribbon: room(numbers, 0),
@@ -46,9 +64,13 @@ impl From<&[u16]> for ListRooms {
 }
 
 impl ListRooms {
-    // The rooms of a generated case with a ribbon of so many bands, so many codes and a sheet of so many bytes: each is what is due, one
-    // less or some more, or for two of them the most.
-    pub fn draw(bands: usize, codes: usize, sheet: usize, draws: &mut Draws) -> Self {
+    // The rooms of a generated case with a ribbon of so many bands, so many codes and a sheet of so many bytes: each is what is
+    // due, one less or some more, or for two of them the most. No case lends more than 130 records.
+    pub fn draw(bands: usize, codes: usize, sheet: usize, draws: &mut Draws) -> Self
+        ensures ribbon { bands ≤ 8192 → result.ribbon ≤ 8195 }
+        ensures records { codes ≤ 128 → result.records ≤ 130 }
+        ensures sheet { sheet ≤ 17181 → result.sheet ≤ 17186 }
+    {
         let ribbon = [
             bands,
             bands.saturating_sub(1),

@@ -1,4 +1,7 @@
 // The supplied ribbon of a generated case.
+ghost use Rattle.std.specs.Prelude.{◌≡◌, ◌+◌, ◌≤◌, length};
+ghost use Rattle.arrayvec.specs.ArrayVec.{array_vec_len};
+
 use crate::draws::Draws;
 use arrayvec::ArrayVec;
 use lists::MOST_BANDS;
@@ -27,16 +30,21 @@ const CHANGES: [Change; 6] = [
 ];
 
 // One band becomes another.
-fn spoil(ribbon: &mut [u8], draws: &mut Draws) {
+fn spoil(ribbon: &mut [u8], draws: &mut Draws)
+    ensures { length ribbon.new ≡ length ribbon.old }
+{
     if ribbon.is_empty() {
         return;
     }
-    let at = draws.next() % ribbon.len();
+    let at = draws.below(ribbon.len());
     ribbon[at] = b'Z';
 }
 
-// A computed ribbon is supplied as it is, or changed.
-pub fn supply(computed: &[u8], draws: &mut Draws) -> ArrayVec<u8, ROOM> {
+// A computed ribbon is supplied as it is, or changed: by one band at most it is longer or shorter.
+pub fn supply(computed: &[u8], draws: &mut Draws) -> ArrayVec<u8, ROOM>
+    ensures most { array_vec_len result ≤ length computed.now + 1 }
+    ensures least { length computed.now ≤ 8192 → length computed.now ≤ array_vec_len result + 1 }
+{
     let mut ribbon = ArrayVec::new();
     let _ = ribbon.try_extend_from_slice(computed);
     match CHANGES[draws.below(6)] {

@@ -5,7 +5,7 @@ ghost use Rattle.words.specs.Count.{count_of};
 ghost use Rattle.counting.specs.Moves.{Moved};
 
 use matching::{Form, Pattern};
-use windows::{next_fit, sums_of, window_at};
+use windows::{next_fit, sum_of, window_at};
 
 // A pass: how many bands it has passed, and how many of each way are held there.
 #[derive(Clone, Copy)]
@@ -41,7 +41,7 @@ impl Pass {
 
 // The number of starts at which c stands on s, either way, each start once: one pass along s holds the longest beginning of
 // each way that ends at a band and can still be whole, and where one of them is whole a start counts. Where the next start that
-// fits is behind all bands passed, the pass goes on there.
+// fits is behind all bands passed, the pass goes on there. 1 to 64 bands, and no type for it, as in finding.
 pub fn count_places(c: &[u8], s: &[u8]) -> usize
     requires { (0 < length c.now) × (length c.now ≤ 64) }
     ensures { result ≡ count_of turned c.now s.now }
@@ -50,9 +50,10 @@ pub fn count_places(c: &[u8], s: &[u8]) -> usize
     if s.len() < n {
         return 0;
     }
+    // No struct of these, shared with finding: there one pattern falls back, here both go on, so no step would be of it.
     let given = Pattern::of(Form::given(c));
     let turned = Pattern::of(Form::turned(c));
-    let sums = sums_of(c);
+    let sum = sum_of(c);
     let mut w = window_at(s, 0, n);
     let mut count = 0;
     let mut pass = Pass {
@@ -62,7 +63,7 @@ pub fn count_places(c: &[u8], s: &[u8]) -> usize
     };
     // An index: the pass leaves out the bands before the next start that fits.
     while pass.end < s.len() {
-        w = next_fit(s, n, sums, w, pass.end - pass.given.max(pass.turned));
+        w = next_fit(s, n, sum, w, pass.end - pass.given.max(pass.turned));
         let at = pass.moved(w.start);
         let x = s[at.end];
         pass = Pass {

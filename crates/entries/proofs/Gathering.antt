@@ -14,13 +14,16 @@ use Rattle.words.specs.Tests.{pick}
 use Rattle.words.proofs.Deciding.{is_eq, fails}
 use Rattle.lists.specs.Refusals.{empty_list_number}
 use Rattle.lists.specs.Runs.{codes_in}
+use Rattle.lists.specs.Handed.{words_of}
+use Rattle.lists.specs.declared.handed.Run.{Run}
 use Rattle.grammar.specs.Files.{Orders, orders, bad, add}
 use Rattle.grammar.specs.Rows.{first_row}
 use Rattle.grammar.specs.Orders.{head_fault_lem, entry_fault_lem, name_in, code_in, row_fault, rows_from, read_orders_lem}
 use Rattle.rows.specs.Scans.{RowFound}
 use Rattle.rows.specs.declared.scan.RowRead.{RowRead}
-use Rattle.entries.specs.Gathering.{ChecksRow, Roomy}
-use Rattle.std.specs.Prelude.{Result, Ok, Err}
+use Rattle.std.specs.Borrow.{Bor}
+use Rattle.entries.specs.Gathering.{TwoFound, Finds, ChecksRow}
+use Rattle.std.specs.Prelude.{Result, Ok, Err, IfOk}
 use Rattle.lists.specs.Answers.{number_of, number_told}
 use Rattle.lists.specs.declared.numbers.Fault.{Fault}
 use Rattle.lists.proofs.Table.{some_number}
@@ -43,12 +46,29 @@ module _ (f k : ℕ) (ns cs : List (List ℕ)) (s : List ℕ) where
       ≡ rows_from f (suc k) (add ns (name_in (first_row s))) (add cs (code_in (first_row s))) (first_row s).rest
   rows_on h e = cc (ne_eqb (length s) 0 h, eq-eqb (row_fault (entry_fault_lem ns) (first_row s)) 0 e)
 
+-- A row checked by a test that finds these faults of its two fields.
+pub record Checked (here : List ℕ) (of_two : List ℕ → List ℕ → ℕ) (names bands : List ℕ) (r : Result RowRead Fault) : Type 0 where
+  pub fault : number_told r ≡ row_fault of_two (first_row here)
+  pub found : IfOk r (λ c. TwoFound here names bands (first_row here) c)
+
+pub checked : {here names bands : List ℕ} {answers : Bor (List ℕ) → Bor (List ℕ) → Result (Unit {0}) Fault → Type 0}
+    {r : Result RowRead Fault} (of_two : List ℕ → List ℕ → ℕ) → ChecksRow here answers names bands r → Finds answers of_two
+    → Checked here of_two names bands r
+checked of_two h t = record { fault = h.fault of_two t; found = h.found }
+
 module _ (s : List ℕ) (few : length s ≤ 16384) (some : length s ≢ 0) where
   head_good : row_fault head_fault_lem (first_row s) ≡ 0
       → read_orders_lem s ≡ rows_from (suc (length s)) 2 [] [] (first_row s).rest
   head_good e =
       cc
       (le-ltb 16384 (length s) few, ne_eqb (length s) 0 some, eq-eqb (row_fault head_fault_lem (first_row s)) 0 e)
+
+  pub bad_heading : {names bands : List ℕ} {f : Fault} → Checked s head_fault_lem names bands (Err f)
+      → read_orders_lem s ≡ bad (number_of f) 1
+  bad_heading {f = f} h =
+      let ne : row_fault head_fault_lem (first_row s) ≢ 0 = λ z. absurd (omega (arith, h.fault ∙ z, some_number f)) in
+      cc
+      (le-ltb 16384 (length s) few, ne_eqb (length s) 0 some, ne_eqb (row_fault head_fault_lem (first_row s)) 0 ne, h.fault)
 
 -- What the loop keeps, for the answer x: the words so far are filed, the rows that are left give x, and they fit behind both
 -- marks.
@@ -63,15 +83,17 @@ pub record Going (x : Orders) (rest bands ls names sizes : List ℕ) (count bmar
   pub few : count ≤ 128
   pub name_room : nmark + length rest ≤ length names
   pub code_room : bmark + length rest ≤ length bands
+  pub names_most : length names ≤ 16384
+  pub bands_most : length bands ≤ 16384
   pub lengths_room : 128 ≤ length ls
   pub sizes_room : 128 ≤ length sizes
 
 -- It begins after the heading, where no entry is filed yet.
 module _ {file names bands : List ℕ} (few : length file ≤ 16384) (some : 0 < length file) where
-  pub begins : {ls sizes : List ℕ} {r : RowRead} → Roomy bands ls names sizes
-      → ChecksRow file head_fault_lem names bands (Ok r)
+  pub begins : {ls sizes : List ℕ} {r : RowRead} → length names ≡ 16384 → length bands ≡ 16384 → length ls ≡ 128
+      → length sizes ≡ 128 → Checked file head_fault_lem names bands (Ok r)
       → Going (read_orders_lem file) (drop r.size file) bands ls names sizes 0 0 0
-  begins {ls} {sizes} {r} m h =
+  begins {ls} {sizes} {r} n b l z h =
       let k = length-drop r.size file in
       record {
         ns = [];
@@ -84,6 +106,8 @@ module _ {file names bands : List ℕ} (few : length file ≤ 16384) (some : 0 <
         few = omega arith;
         name_room = omega arith;
         code_room = omega arith;
+        names_most = omega arith;
+        bands_most = omega arith;
         lengths_room = omega arith;
         sizes_room = omega arith;
       }
@@ -94,7 +118,14 @@ module _ {x : Orders} {rest bands ls names sizes : List ℕ} {count bmark nmark 
   abbrev so_far : List (List ℕ)
   so_far = codes_in (take nmark names) (take count sizes)
 
-  is_fault : {names' bands' : List ℕ} {r : Result RowRead Fault} → ChecksRow rest (entry_fault_lem so_far) names' bands' r
+  -- the next row, checked by a test that finds the faults of an entry after the words so far
+  pub checked_entry : {names' bands' : List ℕ} {answers : Bor (List ℕ) → Bor (List ℕ) → Result (Unit {0}) Fault → Type 0}
+      {r : Result RowRead Fault} (before : Run) → ChecksRow rest answers names' bands' r → Finds answers (entry_fault_lem (words_of before))
+      → before.bytes.now ≡ take nmark names → before.sizes.now ≡ take count sizes
+      → Checked rest (entry_fault_lem so_far) names' bands' r
+  checked_entry before h t b z = checked (entry_fault_lem so_far) h (rw (b, z) at t)
+
+  is_fault : {names' bands' : List ℕ} {r : Result RowRead Fault} → Checked rest (entry_fault_lem so_far) names' bands' r
       → number_told r ≡ row_fault (entry_fault_lem g.ns) (first_row rest)
   is_fault h = h.fault ∙ ap (λ ns. row_fault (entry_fault_lem ns) (first_row rest)) (filed_words g.names_filed)
 
@@ -102,14 +133,14 @@ module _ {x : Orders} {rest bands ls names sizes : List ℕ} {count bmark nmark 
   left more = fails (is_eq (length rest) 0) (sym more)
 
   module _ (more : false ≡ eqb (length rest) 0) {names' bands' : List ℕ} where
-    pub bad_entry : {f : Fault} → ChecksRow rest (entry_fault_lem so_far) names' bands' (Err f)
+    pub bad_entry : {f : Fault} → Checked rest (entry_fault_lem so_far) names' bands' (Err f)
         → x ≡ bad (number_of f) (2 + count)
     bad_entry {f} h =
         sym g.goes
         ∙ (rows_fault g.fuel (2 + count) g.ns g.cs rest (left more) (λ z. absurd (omega (arith, is_fault h ∙ z, some_number f)))
         ∙ ap (λ n. bad n (2 + count)) (sym (is_fault h)))
 
-    module _ {r : RowRead} (h : ChecksRow rest (entry_fault_lem so_far) names' bands' (Ok r)) where
+    module _ {r : RowRead} (h : Checked rest (entry_fault_lem so_far) names' bands' (Ok r)) where
       abbrev found : RowFound rest names' bands' (first_row rest) r
       found = h.found.row
 
@@ -167,6 +198,8 @@ module _ {x : Orders} {rest bands ls names sizes : List ℕ} {count bmark nmark 
                     few = omega arith;
                     name_room = omega (arith, found.name_fits, found.within, g.name_room);
                     code_room = omega (arith, found.code_fits, found.within, g.code_room);
+                    names_most = omega (arith, ln, g.names_most);
+                    bands_most = omega (arith, lb, g.bands_most);
                     lengths_room = omega (arith, g.lengths_room, length-set ls count r.code);
                     sizes_room = omega (arith, g.sizes_room, length-set sizes count r.name);
                   }

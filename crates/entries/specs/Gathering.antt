@@ -1,6 +1,7 @@
 -- What the reader's steps give: a row with its fault, and after all rows the answer for the file, with the words gathered
 -- in two runs.
 use Rattle.std.specs.Prelude.{◌≡◌, List, ℕ, ◌≤◌, length, Result, Ok, Err, IfOk}
+use Rattle.std.specs.Borrow.{Bor}
 use Rattle.lists.specs.Answers.{number_of, number_told}
 use Rattle.lists.specs.declared.numbers.Fault.{Fault}
 use Rattle.lists.specs.declared.numbers.Refusal.{Refusal}
@@ -23,17 +24,15 @@ abbrev pub ReadsTwo : List ℕ → List ℕ → List ℕ → Result RowRead Faul
 ReadsTwo here names bands (Ok r) = TwoFound here names bands (first_row here) r
 ReadsTwo here names bands (Err f) = (of_two : List ℕ → List ℕ → ℕ) → number_of f ≡ row_fault of_two (first_row here)
 
--- the row that begins here, or its fault, where a test finds that of the two fields
-pub record ChecksRow (here : List ℕ) (of_two : List ℕ → List ℕ → ℕ) (names bands : List ℕ) (r : Result RowRead Fault) : Type 0 where
-  pub fault : number_told r ≡ row_fault of_two (first_row here)
-  pub found : IfOk r (λ c. TwoFound here names bands (first_row here) c)
+-- a test of two fields, by what it answers, finds these faults of them
+abbrev pub Finds : (Bor (List ℕ) → Bor (List ℕ) → Result (Unit {0}) Fault → Type 0) → (List ℕ → List ℕ → ℕ) → Type 0
+Finds answers of_two = (n c : Bor (List ℕ)) (r : Result (Unit {0}) Fault) → answers n c r → number_told r ≡ of_two n.now c.now
 
--- the buffers that words are gathered in: no file has more bytes, and no list more entries
-pub record Roomy (bands ls names sizes : List ℕ) : Type 0 where
-  pub code_run : length bands ≡ 16384
-  pub code_lengths : length ls ≡ 128
-  pub name_run : length names ≡ 16384
-  pub name_lengths : length sizes ≡ 128
+-- the row that begins here, or its fault, where a test of its two fields answers so
+pub record ChecksRow (here : List ℕ) (answers : Bor (List ℕ) → Bor (List ℕ) → Result (Unit {0}) Fault → Type 0)
+    (names bands : List ℕ) (r : Result RowRead Fault) : Type 0 where
+  pub fault : (of_two : List ℕ → List ℕ → ℕ) → Finds answers of_two → number_told r ≡ row_fault of_two (first_row here)
+  pub found : IfOk r (λ c. TwoFound here names bands (first_row here) c)
 
 -- words in a run, with as many lengths
 pub record Filed (words : List (List ℕ)) (run : Run) : Type 0 where

@@ -1,46 +1,29 @@
 -- The pass over the faces of codes: while no join of more than o bands is allowed, the faces that begin with the last o bands
 -- of a are those with overlap o from a.
-use mathlib.Core.Path.{◌≡◌, refl, subst}
-use mathlib.Core.Bool.{Bool, true, false}
+use mathlib.Core.Path.{◌≡◌, subst}
 use mathlib.Core.List.{List}
-use Prim.Native.Nat.{ℕ, ◌+◌, ◌*◌, ◌/◌, ◌%◌, ◌≤◌, ◌<◌}
+use Prim.Native.Nat.{ℕ, ◌+◌, ◌*◌, ◌≤◌, ◌<◌}
 use native.Mathlib.Omega.{arith}
-use lib.Dec.{eqb}
 use lib.ListN.{length, get_or, set}
 use Rattle.std.proofs.Common.{Some, None}
 use Rattle.words.specs.Turn.{turned}
-use Rattle.words.specs.Tests.{pick}
 use Rattle.words.specs.Overlap.{Shares}
-use Rattle.words.proofs.Turning.{turning}
 use Rattle.words.proofs.Overlaps.{overlap_shares, overlap_longest, overlap_right}
 use Rattle.joins.specs.Faces.{mirror}
 use Rattle.joins.specs.Rows.{Unjoined, EndsAt}
 use Rattle.joins.specs.Pass.{PassedRow, Joinable}
 use Rattle.joins.proofs.Passing.{row_start, row_none, row_made}
-use Rattle.greedy.specs.Dropping.{code_at}
 use Rattle.greedy.specs.Reading.{face_of, shared}
-use Rattle.parts.specs.Parts.{FewCodes}
+use Rattle.parts.specs.Parts.{Short}
+use Rattle.parts.proofs.Faces.{face_short}
 use Rattle.faces.specs.Passing.{Follows, LowestFollows}
 
-module _ (ks : List (List ℕ)) where
-  face_size : (f : ℕ) → length (face_of turned ks f) ≡ length (code_at ks (f / 2))
-  face_size f = way (eqb (f % 2) 0)
-    where
-      way : (t : Bool) → length (pick t (code_at ks (f / 2)) (turned (code_at ks (f / 2)))) ≡ length (code_at ks (f / 2))
-      way true = refl
-      way false = turning.as_long (code_at ks (f / 2))
-
-  -- before any join: no face has more than 64 bands
-  pub pass_begun : {after : List ℕ} → FewCodes ks → Unjoined (length ks) after
-      → PassedRow (length ks) (shared turned ks) after 65 (2 * length ks)
-  pass_begun few u =
-      row_start u
-      (λ c d lc ld. omega (
-        arith,
-        overlap_right (face_of turned ks c) (face_of turned ks d),
-        face_size d,
-        few.short (d / 2) (omega arith),
-      ))
+-- before any join: no face has more than 64 bands
+pub pass_begun : (ks : List (List ℕ)) {after : List ℕ} → Short ks → Unjoined (length ks) after
+    → PassedRow (length ks) (shared turned ks) after 65 (2 * length ks)
+pass_begun ks short u =
+    row_start u
+    (λ c d lc ld. omega (arith, overlap_right (face_of turned ks c) (face_of turned ks d), face_short ks short d))
 
 module _ {ks : List (List ℕ)} {after : List ℕ} {a o head : ℕ} where
   -- what follows can be joined, and has at least so large an overlap

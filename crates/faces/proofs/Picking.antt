@@ -58,9 +58,6 @@ module _ (faces : List ℕ) (i : ℕ) {Has : ℕ → Type 0} where
       go (inl e) = lowest r (under old w t.falls) (λ b q. kept old w b (sym e ∙ q))
       go (inr x) = lowest r (under old w t.falls) (λ b q. let k : get_or faces i 0 ≡ b = cc in last k (rw k at x.1))
 
-pub lowest_none : (faces : List ℕ) {Has : ℕ → Type 0} → Lowest (Among faces 0 Has) None
-lowest_none faces b a = absurd (omega (arith, a.within))
-
 -- what has one property has another, and the other way round
 pub lowest_same : {P Q : ℕ → Type 0} → ((b : ℕ) → P b → Q b) → ((b : ℕ) → Q b → (P b → ⊥) → ⊥) → (r : Option ℕ) → Lowest P r → Lowest Q r
 lowest_same to from None w = λ b q. from b q (w b)

@@ -1,2 +1,3 @@
 -- The faces of parts joined in one pass over them, sorted.
 pub mod Passing
+pub mod Joining

@@ -3,7 +3,9 @@ use Rattle.std.specs.Prelude.{◌≡◌, ◌≢◌, ◌⊎◌, Bool, not, ◌&&�
 use Rattle.words.specs.Turn.{turned}
 use Rattle.words.specs.Overlap.{Shares}
 use Rattle.joins.specs.Faces.{mirror}
+use Rattle.joining.specs.Joins.{row_of}
 use Rattle.greedy.specs.Reading.{face_of}
+use Rattle.faces.specs.declared.following.Followers.{Followers}
 
 -- the lowest number that has a property; none where no number has it
 abbrev pub Lowest : (ℕ → Type 0) → Option ℕ → Type 0
@@ -32,6 +34,13 @@ pub record MayFollow (after : List ℕ) (head other b : ℕ) : Type 0 where
 -- its test
 abbrev pub may_follow_lem : List ℕ → (head other b : ℕ) → Bool
 may_follow_lem after head other b = not (eqb b head) && not (eqb b other) && eqb (get_or after (mirror b) 0) 0
+
+-- what b is to those that may follow, and the test of it
+abbrev pub Takes : Followers → ℕ → Type 0
+Takes f b = MayFollow (row_of f.after.now) f.head f.other b
+
+abbrev pub takes_lem : Followers → ℕ → Bool
+takes_lem f b = may_follow_lem (row_of f.after.now) f.head f.other b
 
 -- r is a number up to b
 abbrev pub Under : Option ℕ → ℕ → Type 0

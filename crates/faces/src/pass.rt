@@ -2,60 +2,76 @@
 // ever shrinks, so a join that is passed over is not wanted later, and no table of overlaps is needed.
 ghost use Rattle.std.specs.Prelude.{◌+◌, ◌*◌, ◌≤◌, ◌<◌, length};
 ghost use Rattle.words.specs.Turn.{turned};
-ghost use Rattle.joins.specs.Rows.{Unjoined, Laid, Wrote};
-ghost use Rattle.joins.specs.Pass.{PassedRow};
+ghost use Rattle.joins.specs.Rows.{Unjoined, Wrote};
 ghost use Rattle.joining.specs.Joins.{row_of};
-ghost use Rattle.greedy.specs.Reading.{shared};
 ghost use Rattle.greedy.specs.Layout.{order_for};
-ghost use Rattle.parts.specs.Parts.{FewCodes};
+ghost use Rattle.parts.specs.Parts.{Short};
 
-use crate::following::lowest_following;
 use joining::{end_from, make_join, mirror_of, write_order};
+use lists::{MOST_CODE_BANDS, MOST_FACES};
 use parts::Parts;
 use sorting::Sorted;
 
-// The join from face a with overlap o, where a ends a piece and some face can follow: of those the lowest.
-fn join_from(sorted: &Sorted<'_>, after: &mut [Option<usize>], o: usize, a: usize)
-    requires { (a < 2 * length sorted.now) × PassedRow (length sorted.now) (shared turned sorted.now) (row_of after.old) o a }
-    ensures { PassedRow (length sorted.now) (shared turned sorted.now) (row_of after.new) o (a + 1) }
-{
-    if after[a].is_some() {
-        return;
+// The faces of codes, sorted, and the joins made so far: at each face the face after it, a row of fixed memory.
+#[derive(Drop)]
+pub(crate) struct Joining<'a> {
+    pub(crate) sorted: Sorted<'a>,
+    pub(crate) after: [Option<usize>; MOST_FACES],
+    pub(crate) ghost short: { Short sorted },
+}
+
+impl Joining<'_> {
+    ghost use Rattle.faces.specs.Joining.{ComesTo, Joined};
+
+    // The join from face a with overlap o, where a ends a piece and some face can follow: of those the lowest.
+    fn join_from(&mut self, o: usize, a: usize)
+        requires { (a < 2 * length self.old.sorted) × ComesTo self.old.sorted o a self.old }
+        ensures { ComesTo self.old.sorted o (a + 1) self.new }
+    {
+        let next = self.after[a];
+        if next.is_some() {
+            return;
+        }
+        let head = mirror_of(end_from(&self.after, self.sorted.parts().len(), mirror_of(a)));
+        if let Some(b) = self.lowest_following(a, o, head) {
+            make_join(&mut self.after, a, b);
+        }
     }
-    let head = mirror_of(end_from(after, sorted.parts().len(), mirror_of(a)));
-    if let Some(b) = lowest_following(sorted, after, a, o, head) {
-        make_join(after, a, b);
+
+    // All joins with overlap o.
+    fn join_faces_at(&mut self, o: usize)
+        requires { ComesTo self.old.sorted o 0 self.old }
+        ensures { ComesTo self.old.sorted o (2 * length self.old.sorted) self.new }
+    {
+        for a in 0..2 * self.sorted.parts().len() {
+            self.join_from(o, a);
+        }
+    }
+
+    // The whole pass, from a row with no joins. No face has more than 64 bands.
+    fn run_pass(&mut self)
+        requires { Unjoined (length self.old.sorted) (row_of self.old.after) }
+        ensures { Joined self.old.sorted self.new }
+    {
+        for o in (0..MOST_CODE_BANDS + 1).rev() {
+            self.join_faces_at(o);
+        }
     }
 }
 
-// All joins with overlap o.
-fn join_faces_at(sorted: &Sorted<'_>, after: &mut [Option<usize>], o: usize)
-    requires { PassedRow (length sorted.now) (shared turned sorted.now) (row_of after.old) o 0 }
-    ensures { PassedRow (length sorted.now) (shared turned sorted.now) (row_of after.new) o (2 * length sorted.now) }
-{
-    for a in 0..2 * sorted.parts().len() {
-        join_from(sorted, after, o, a);
-    }
-}
-
-// The whole pass, from a row with no joins. No face has more than 64 bands.
-fn run_pass(sorted: &Sorted<'_>, after: &mut [Option<usize>])
-    requires { FewCodes sorted.now × Unjoined (length sorted.now) (row_of after.old) }
-    ensures { Laid (length sorted.now) (shared turned sorted.now) (row_of after.new) }
-{
-    for o in (0..65).rev() {
-        join_faces_at(sorted, after, o);
-    }
-}
-
-// The order of the parts' faces that joining gives, written at the beginning of order. How many faces it has.
+// The order of the parts' faces that joining gives, written at the beginning of order. How many faces it has, and not a slice of
+// them: without a heap the row is lent, and the clause speaks of all of it, what is behind the order too. A slice: a row of just 256
+// would ask more of those who have longer ones.
 pub fn order_faces(parts: &Parts<'_>, order: &mut [usize]) -> usize
-    requires { 256 ≤ length order.old }
+    requires { Short parts.now × (256 ≤ length order.old) }
     ensures order { Wrote (order_for turned parts.now) order.old order.new result }
     ensures few { result ≤ 256 }
 {
     let n = parts.len();
-    let mut after = [None; 256];
-    run_pass(&Sorted::of(parts), &mut after);
-    write_order(&after, n, order)
+    let mut joining = Joining {
+        sorted: Sorted::of(parts),
+        after: [None; MOST_FACES],
+    };
+    joining.run_pass();
+    write_order(&joining.after, n, order)
 }

@@ -1,15 +1,13 @@
 // Names as fields of a row: quoted only if they hold a comma or a quote, each quote inside doubled.
-ghost use Rattle.std.specs.Prelude.{◌≡◌, ◌==◌, ◌||◌, [], ◌∷◌};
-ghost use Rattle.std.specs.List.{list_any};
-ghost use Rattle.grammar.specs.Files.{quote, comma};
-ghost use Rattle.grammar.specs.Quoting.{doubled_quotes, field_text};
+ghost use Rattle.std.specs.Prelude.{◌≡◌, [], ◌∷◌};
+ghost use Rattle.grammar.specs.Quoting.{needs_quotes_lem, doubled_quotes, field_text};
 ghost use Rattle.fields.specs.Sinks.{Fits, Puts};
 
 use crate::sink::Sink;
 
 // The name holds a comma or a quote.
 fn needs_quotes(name: &[u8]) -> bool
-    ensures { result ≡ list_any (λ b. (b == comma) || (b == quote)) name.now }
+    ensures { result ≡ needs_quotes_lem name.now }
 {
     name.iter().any(|b| *b == b',' || *b == b'"')
 }
@@ -37,7 +35,6 @@ fn put_doubled<S: Sink>(name: &[u8], sink: &mut S)
 }
 
 // A name is put into a sink as a field.
-#[tactic(auto, using(crate::proofs::Quoted::marked_some))]
 pub fn put_field<S: Sink>(name: &[u8], sink: &mut S)
     requires { Fits S.kind sink.old (field_text name.now) }
     ensures { Puts S.kind sink.old (field_text name.now) sink.new }

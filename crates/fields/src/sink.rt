@@ -1,6 +1,7 @@
 // Where texts go, one behind the other: a row that they are written on, or a counter that only tells how long they are.
 ghost use Rattle.fields.specs.Sinks.{Kind, Fits, Puts, SinkLaws};
 
+// Not fmt::Write: it promises nothing of a write that fails, and names are bytes, not str.
 pub trait Sink {
     ghost kind: { Kind Self };
 

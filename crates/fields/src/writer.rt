@@ -5,7 +5,7 @@ ghost use Rattle.fields.specs.Writing.{writing_laws};
 
 use crate::sink::Sink;
 
-// The lent row, and the place behind the texts on it.
+// The lent row, and the place behind the texts on it: a lent row is filled from its beginning, since there is no heap.
 #[derive(Drop)]
 pub struct Writer<'a> {
     pub out: &'a mut [u8],

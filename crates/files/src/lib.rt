@@ -7,7 +7,7 @@ use std::fs::OpenOptions;
 use std::io::Read;
 use std::rt::{Env, Files};
 
-// as long as the system lets a path be
+// as long as the system lets a path be: a row of its own, as there is no heap
 const MOST_PATH_BYTES: usize = 4096;
 
 // The bytes of an open file, as many as the buffer takes; how many. A file that cannot be read to its end counts as one of
@@ -16,7 +16,7 @@ pub fn read_whole(file: &mut impl Read, buffer: &mut [u8]) -> usize
     ensures within { result ≤ length buffer.new }
     ensures front { result ≡ length (take result buffer.new) }
 {
-    // a count and no slice of the buffer is handed back: no clause could say of that slice that it is the buffer's front
+    // a count, and no slice: the contract says how many bytes stand at the buffer's front, and each program cuts there
     let mut done = 0;
     // a loop over `read`: `read_to_end` puts the bytes on the heap, and `read_exact` wants to know how many there are
     while done < buffer.len() {

@@ -1,6 +1,8 @@
 // The place of a word on a row, from a first start on.
 #![tactic(auto)]
 
+ghost use Rattle.std.specs.Prelude.{◌≡◌};
+
 mod starts;
 
 pub use starts::find_place;
@@ -11,4 +13,19 @@ pub enum Way<N> {
     Given(N),
     Turned(N),
     Either(N),
+}
+
+impl<N: Copy> Way<N> {
+    ghost use Rattle.finding.specs.Answers.{start_of};
+
+    // The start, whichever the way.
+    pub fn start(self) -> N
+        ensures { result ≡ start_of self }
+    {
+        match self {
+            Way::Given(start) => start,
+            Way::Turned(start) => start,
+            Way::Either(start) => start,
+        }
+    }
 }

@@ -5,6 +5,6 @@ mod codes;
 mod names;
 mod texts;
 
-pub use codes::{list_ok, sum_of};
-pub use names::{is_taken, names_ok};
+pub use codes::{FitList, list_ok, sum_of};
+pub use names::{FitNames, is_taken, names_ok};
 pub use texts::{all_bands, name_ok};

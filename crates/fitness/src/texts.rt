@@ -2,6 +2,8 @@
 ghost use Rattle.std.specs.Prelude.{◌≡◌};
 ghost use Rattle.lists.specs.Fit.{all_bands_lem, name_ok_lem};
 
+use lists::MOST_NAME_SIZE;
+
 // Every byte is a band, A to Z.
 pub fn all_bands(s: &[u8]) -> bool
     ensures { result ≡ all_bands_lem s.now }
@@ -13,5 +15,5 @@ pub fn all_bands(s: &[u8]) -> bool
 pub fn name_ok(n: &[u8]) -> bool
     ensures { result ≡ name_ok_lem n.now }
 {
-    (1..=24).contains(&n.len()) && n.iter().all(|b| (0x20..=0x7E).contains(b))
+    (1..=MOST_NAME_SIZE).contains(&n.len()) && n.iter().all(|b| (0x20..=0x7E).contains(b))
 }

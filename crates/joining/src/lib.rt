@@ -1,6 +1,7 @@
 // Joining n kept codes, whatever their faces spell. The joins are one row, `after`: at each face the face after it, or none
 // where the face ends a piece. It and n stay two parameters: a type that kept the row to the faces of n codes would ask more
-// of make_join, which takes any two faces.
+// of make_join, which takes any two faces. Rows of just 256 would ask more of those who have longer ones, and faces of type u8
+// would be converted at each index: `256 ≤ length` and `< 256` stand in the contracts in their place.
 #![tactic(auto)]
 
 mod ends; // from a face to the end of its piece

@@ -11,6 +11,7 @@ fn write_piece(after: &[Option<usize>], n: usize, f: usize, order: &mut [usize])
     ensures { WrotePiece n (row_of after.now) f order.old order.new result }
 {
     let mut at = f;
+    // By numbers: how many faces there are is known only where the piece ends, and the number of the turn is the answer.
     for count in 0..2 * n {
         order[count] = at;
         let Some(next) = after[at] else {

@@ -31,10 +31,7 @@ no_joins {n} {after} z c l =
       records = λ f k. zero_at after z f;
     }
 
--- The order: nothing to order, or the piece that begins at the mirror of where face 0's mirror leads.
-pub order_none : {n : ℕ} {after before : List ℕ} → n ≡ 0 → WroteOrder n after before before 0
-order_none e = rw e (record { wrote = λ js h. record { count = refl; written = refl } })
-
+-- The order: the piece that begins at the mirror of where face 0's mirror leads.
 pub order_written : {n : ℕ} {after before row : List ℕ} {f e start count : ℕ} → f ≡ mirror 0 → EndsAt n after f e
     → start ≡ mirror e → WrotePiece n after start before row count → WroteOrder n after before row count
 order_written {n} {after} {before} {row} {e = e} {start} {count} o at m wrote =

@@ -129,17 +129,6 @@ module _ {n : ℕ} {w : ℕ → ℕ → ℕ} where
         } in
         pass_skip there (λ d B e. none_from d B)
 
-  pub pass_down : {js : List Join} {o : ℕ} → Passed n w js (suc o) (2 * n) → Passed n w js o 0
-  pass_down {js} {o} P =
-      record {
-        run = P.run;
-        larger =
-            λ c d A.
-            let u : w c d ≢ suc o = λ e. omega (arith, P.lower c d A e, A.faces.0) in
-            omega (arith, P.larger c d A);
-        lower = λ c d A e. omega arith;
-      }
-
   -- at the end nothing is allowed, so two mirrored pieces remain
   module _ {js : List Join} (P : Passed n w js 0 (2 * n)) where
     none_left : (c d : ℕ) → Allowed n js c d → ⊥
@@ -227,15 +216,6 @@ module _ {n : ℕ} {w : ℕ → ℕ → ℕ} {after : List ℕ} where
   pub row_start : {o : ℕ} → Unjoined n after → ((c d : ℕ) → c < 2 * n → d < 2 * n → w c d < o)
       → PassedRow n w after o (2 * n)
   row_start u h = record { joins = []; row = u.row; records = u.records; passed = pass_start h }
-
-  pub row_down : {o l : ℕ} → PassedRow n w after l (2 * n) → l ≡ suc o → PassedRow n w after o 0
-  row_down P e =
-      record {
-        joins = P.joins;
-        row = P.row;
-        records = P.records;
-        passed = pass_down (subst (λ (k : ℕ). Passed n w P.joins k (2 * n)) e P.passed);
-      }
 
   pub row_end : {o : ℕ} → PassedRow n w after o (2 * n) → o ≡ 0 → Laid n w after
   row_end P z =

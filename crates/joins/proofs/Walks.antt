@@ -3,7 +3,7 @@
 use mathlib.Core.Path.{◌≡◌, refl, sym, ap, ◌∙◌}
 use mathlib.Core.Logic.{inl, inr, ◌≢◌}
 use mathlib.Core.List.{List}
-use Prim.Native.Nat.{ℕ, zero, suc, ◌+◌, ◌-◌, ◌*◌, ◌%◌, ◌≤◌, ◌<◌}
+use Prim.Native.Nat.{ℕ, zero, suc, ◌-◌, ◌*◌, ◌≤◌, ◌<◌}
 use native.Mathlib.Omega.{arith}
 use lib.ListN.{get_or}
 use Rattle.joins.specs.Faces.{mirror, Join}
@@ -12,29 +12,12 @@ use Rattle.joins.specs.Rows.{Row, Records, EndsAt}
 use Rattle.joins.proofs.Mirrors.{Sides, sides}
 use Rattle.joins.proofs.Allowed.{end_stop, end_go}
 
-pub mirror_even : (f : ℕ) → f % 2 ≡ 0 → f + 1 ≡ mirror f
-mirror_even f e = go (sides f)
-  where
-    go : Sides f → f + 1 ≡ mirror f
-    go (inl x) = omega arith
-    go (inr x) = absurd (omega arith)
-
-pub mirror_odd : (f : ℕ) → f % 2 ≢ 0 → f - 1 ≡ mirror f
-mirror_odd f e = go (sides f)
-  where
-    go : Sides f → f - 1 ≡ mirror f
-    go (inl x) = absurd (e x.0)
-    go (inr x) = omega arith
-
 pub mirror_below : (n f : ℕ) → f < 2 * n → mirror f < 2 * n
 mirror_below n f l = go (sides f)
   where
     go : Sides f → mirror f < 2 * n
     go (inl x) = omega arith
     go (inr x) = omega arith
-
-pub mirror_of_end : {n : ℕ} {after : List ℕ} {f e g : ℕ} → EndsAt n after f e → g ≡ mirror e → g < 2 * n
-mirror_of_end {n} {e = e} h q = omega (arith, mirror_below n e h.within)
 
 -- a walk from f that has come to a face, with so many steps left
 pub record Walk (n : ℕ) (after : List ℕ) (f at left : ℕ) : Type 0 where
@@ -59,11 +42,6 @@ module _ {n : ℕ} {after : List ℕ} {f at left : ℕ} (r : Walk n after f at l
         within = r.within;
         end = λ js h. sym (stops left at js (sym (h at r.within) ∙ e)) ∙ r.same js h;
       }
-
-  pub walk_ends : left ≤ 0 → EndsAt n after f at
-  walk_ends l =
-      let z : left ≡ 0 = omega arith in
-      record { within = r.within; end = λ js h. sym (ap (λ (x : ℕ). end_from_lem x at js) z) ∙ r.same js h }
 
   pub walk_goes : Row n after → 1 ≤ left → get_or after at 0 ≢ 0 → Walk n after f (get_or after at 0 - 1) (left - 1)
   walk_goes row l d =

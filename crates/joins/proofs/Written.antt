@@ -1,8 +1,8 @@
 -- A piece written face by face: what is written so far and what is still to be read are the piece, and behind it the row is
 -- as before.
-use mathlib.Core.Path.{◌≡◌, refl, sym, ap, ◌∙◌}
+use mathlib.Core.Path.{◌≡◌, sym, ap, ◌∙◌}
 use mathlib.Core.Logic.{◌≢◌}
-use mathlib.Core.List.{List, [], ◌∷◌, ◌++◌, append_assoc, append-nil}
+use mathlib.Core.List.{List, [], ◌∷◌, ◌++◌, append_assoc}
 use Prim.Native.Nat.{ℕ, suc, ◌+◌, ◌-◌, ◌*◌, ◌≤◌, ◌<◌}
 use native.Mathlib.Numerals.{add-one}
 use native.Mathlib.Omega.{arith}
@@ -21,17 +21,6 @@ pub record Writing (n : ℕ) (after : List ℕ) (f : ℕ) (before row : List ℕ
   pub rest : drop count row ≡ drop count before
   pub read : (js : List Join) → Records n after js
       → take count row ++ piece_from (2 * n - count) at js ≡ piece_from (2 * n) f js
-
-pub writing_begun : {n : ℕ} {after : List ℕ} {f : ℕ} {row : List ℕ} → f < 2 * n → Writing n after f row row f 0
-writing_begun {n} {f = f} l =
-    let e : 2 * n - 0 ≡ 2 * n = omega arith in
-    record {
-      within = l;
-      steps = omega arith;
-      size = refl;
-      rest = refl;
-      read = λ js h. ap (λ (k : ℕ). piece_from k f js) e;
-    }
 
 wrote : (piece before row : List ℕ) (k : ℕ) → k ≤ length row → take k row ≡ piece → drop k row ≡ drop k before
     → Wrote piece before row k
@@ -56,20 +45,6 @@ reads_go m k f g js q e = ap (λ (x : ℕ). piece_from x f js) q ∙ read_go k f
 
 module _ {n : ℕ} {after : List ℕ} {f : ℕ} {before row : List ℕ} {at count : ℕ}
     (can : Row n after) (room : 256 ≤ length before) (r : Writing n after f before row at count) where
-  pub writing_ended : 2 * n ≤ count → WrotePiece n after f before row count
-  writing_ended l =
-      record { wrote = λ js h. wrote (piece_from (2 * n) f js) before row count fits (all js h) r.rest }
-    where
-      fits : count ≤ length row
-      fits = omega (arith, can.codes, r.steps, r.size)
-
-      all : (js : List Join) → Records n after js → take count row ≡ piece_from (2 * n) f js
-      all js h =
-          let z : 0 ≡ 2 * n - count = omega arith in
-          sym (append-nil (take count row))
-          ∙ ap (λ (k : ℕ). take count row ++ piece_from k at js) z
-          ∙ r.read js h
-
   -- one more face
   module _ (l : count < 2 * n) where
     abbrev new : List ℕ

@@ -21,7 +21,7 @@ use Rattle.greedy.specs.Answers.{LayAnswer, LaysInto, lay_outcome}
 use Rattle.greedy.proofs.Claims.{lays_only}
 use Rattle.greedy.proofs.Room.{ribbon_at_most, accepts}
 use Rattle.layout.specs.Calls.{answer_of, Gives, AnswerMeans, LaysRibbon}
-use Rattle.layout.specs.declared.Laid.{Laid}
+use Rattle.layout.specs.Laid.{Laid}
 use Rattle.greedy.proofs.Dropping.{keeper_ours}
 use Rattle.greedy.proofs.Answers.{lays_out_ours, laid_means}
 

@@ -12,8 +12,6 @@ use lib.Seq.{take-append_seam}
 use borrow.Author.Tests.{lt-ltb, le-ltb}
 use Rattle.words.specs.Lists.{Each}
 use Rattle.words.specs.Turn.{turned}
-use Rattle.lists.specs.Handed.{words_of}
-use Rattle.lists.specs.declared.handed.Run.{Run}
 use Rattle.lists.specs.Runs.{codes_in, over}
 use Rattle.lists.specs.Refusals.{whole, false_list_number, short_buffer_number}
 use Rattle.lists.specs.Fit.{list_ok_lem}
@@ -23,17 +21,14 @@ use Rattle.joins.proofs.Order.{order_within}
 use Rattle.greedy.specs.Dropping.{kept}
 use Rattle.greedy.specs.Reading.{shared, read_piece}
 use Rattle.greedy.specs.Layout.{ribbon_for, order_for}
+use Rattle.parts.specs.Parts.{Short}
 use Rattle.spelling.specs.Ribbons.{InOrder, Measures}
 use Rattle.greedy.specs.Answers.{lay_outcome}
 use Rattle.layout.specs.Calls.{Gives, answer_of, order_outcome, kept_outcome}
 use Rattle.greedy.specs.Answers as a
 use Rattle.greedy.proofs.Answers.{by_tests}
-use Rattle.layout.specs.declared.Laid.{Laid}
+use Rattle.layout.specs.Laid.{Laid}
 use Rattle.lists.specs.declared.numbers.Refusal.{Refusal}
-
--- what is cut from a run are its codes
-pub cut_parts : (run : Run) {ks : List (List ℕ)} → ks ≡ words_of run → ks ≡ codes_in run.bytes.now run.sizes.now
-cut_parts run e = e
 
 -- the ribbon of an order: too long for the buffer, or written
 module _ {ks : List (List ℕ)} {p : List ℕ} {bands saved : ℕ} (m : Measures ks p bands saved) (buffer : List ℕ) where
@@ -59,11 +54,12 @@ module _ (ks : List (List ℕ)) {before after : List ℕ} {r : ℕ} (o : Wrote (
   taken : take r after ≡ order_for turned ks
   taken = cc (o.count, o.written, take-append_seam (order_for turned ks) (drop (length (order_for turned ks)) before))
 
-  pub in_order : r ≤ 256 → InOrder ks (take r after)
-  in_order few =
+  pub in_order : r ≤ 256 → Short ks → InOrder ks (take r after)
+  in_order few short =
       rw taken
       (record {
         few = omega (arith, o.count);
+        short = short;
         faces = λ k l. each_at (order_for turned ks) (order_within (length ks) (shared turned ks)) k l;
       })
     where

@@ -9,7 +9,7 @@ use Rattle.lists.specs.Runs.{over}
 use Rattle.greedy.specs.Reading.{read_piece, saved_along}
 use Rattle.greedy.specs.Layout.{order_for}
 use Rattle.greedy.specs.Answers.{LayAnswer, refused, laid, LayOutcome, LaysInto, lay_outcome, Means}
-use Rattle.layout.specs.declared.Laid.{Laid}
+use Rattle.layout.specs.Laid.{Laid}
 
 -- The outcome by stages: the ribbon of an order of faces of the kept codes ks, and of the order that joining
 -- gives.

@@ -1,31 +1,30 @@
 // From a list of codes to its ribbon: contained codes dropped, faces put in order, the ribbon of that order written.
 #![tactic(auto)]
 
+ghost use Rattle.parts.specs.Parts.{Short};
 ghost use Rattle.layout.specs.Calls.{Gives, order_outcome, kept_outcome, LaysRibbon};
 
 use faces::order_faces;
-use lists::{Fault, Refusal, Run};
+use fitness::FitList;
+use lists::{Fault, MOST_FACES, Refusal};
 use parts::Parts;
 use spelling::Order;
 
 // A ribbon's length, and what it saves.
-#[derive(Clone, Copy)]
-pub struct Laid {
-    pub bands: u32,
-    pub saved: u32,
-}
+pub type Laid = spelling::Sums<u32>;
 
 // The ribbon of an order of faces, written where it fits.
 fn lay_order(order: &Order<'_>, ribbon: &mut [u8]) -> Result<Laid, Refusal>
     ensures { Gives (order_outcome order.now.parts.now order.now.faces.now ribbon.old) ribbon.new result }
 {
-    // What neighbours share, kept so that no overlap is looked for twice.
-    let mut skips = [0usize; 256];
+    // What neighbours share, kept in fixed memory so that no overlap is looked for twice.
+    let mut skips = [0usize; MOST_FACES];
     let sums = order.measure(&mut skips);
     if ribbon.len() < sums.bands {
         return Err(Fault::ShortBuffer.into());
     }
     order.write_bands(&skips, ribbon);
+    // at most 16,384 each: both fit, and there is no error to give
     Ok(Laid {
         bands: sums.bands as u32,
         saved: sums.saved as u32,
@@ -34,10 +33,11 @@ fn lay_order(order: &Order<'_>, ribbon: &mut [u8]) -> Result<Laid, Refusal>
 
 // The ribbon of kept codes.
 fn lay_kept(parts: &Parts<'_>, ribbon: &mut [u8]) -> Result<Laid, Refusal>
+    requires { Short parts.now }
     ensures { Gives (kept_outcome parts.now ribbon.old) ribbon.new result }
 {
     // A row of fixed memory, as long as any order, and how much of it there is.
-    let mut order = [0usize; 256];
+    let mut order = [0usize; MOST_FACES];
     let count = order_faces(parts, &mut order);
     let order = Order {
         parts,
@@ -52,12 +52,6 @@ fn lay_kept(parts: &Parts<'_>, ribbon: &mut [u8]) -> Result<Laid, Refusal>
 pub fn lay_ribbon(bands: &[u8], lengths: &[u16], ribbon: &mut [u8]) -> Result<Laid, Refusal>
     ensures { LaysRibbon bands.now lengths.now ribbon.old ribbon.new result }
 {
-    if !fitness::list_ok(bands, lengths) {
-        return Err(Fault::FalseList.into());
-    }
-    let codes = Parts::cut(Run {
-        bytes: bands,
-        sizes: lengths,
-    });
-    lay_kept(&codes.kept(), ribbon)
+    let list = FitList::of(bands, lengths)?;
+    lay_kept(&Parts::cut(list.codes).kept(), ribbon)
 }

@@ -1,4 +1,3 @@
--- How far a number is from zero, how long a line is, and that it is written.
+-- How far a number is from zero, and how long a line is.
 pub mod Signs
 pub mod Short
-pub mod Begun

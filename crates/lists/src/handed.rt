@@ -2,7 +2,7 @@
 ghost use Rattle.std.specs.Prelude.{◌≤◌, length};
 ghost use Rattle.lists.specs.Runs.{total};
 
-// Words in one run of bytes, with a length for each. It gives one word after the other.
+// Words in one run of bytes, with a length for each, as C hands them over. It gives one word after the other.
 #[derive(Clone, Copy)]
 pub struct Run<'a> {
     pub bytes: &'a [u8],

@@ -7,6 +7,7 @@ mod handed; // lists of words
 
 pub use handed::Run;
 pub use limits::{
-    MOST_BANDS, MOST_CODES, MOST_FILE_BYTES, MOST_NAME_BYTES, MOST_SHEET_BYTES, MOST_SUPPLIED_BANDS,
+    MOST_BANDS, MOST_CODE_BANDS, MOST_CODES, MOST_FACES, MOST_FILE_BYTES, MOST_NAME_BYTES,
+    MOST_NAME_SIZE, MOST_SHEET_BYTES, MOST_SUPPLIED_BANDS,
 };
 pub use numbers::{Fault, Refusal};

@@ -35,7 +35,17 @@ pub enum Fault {
     LongRibbon = 15,
 }
 
-// A refusal: why, and in which row (0 where no row is meant).
+impl Fault {
+    // In a row of a file.
+    pub fn in_row(self, row: u32) -> Refusal
+        ensures { result ≡ record { fault = self; row = row } }
+    {
+        Refusal { fault: self, row }
+    }
+}
+
+// A refusal: why, and in which row (0 where no row is meant). 0 and no Option: the line of a refusal and the answer for C
+// both show 0.
 #[derive(Clone, Copy, Debug, PartialEq, Eq)]
 pub struct Refusal {
     pub fault: Fault,

@@ -1,11 +1,10 @@
 -- A pass along a word: the match held after each band, beside a row that has the fall-backs from it.
-use mathlib.Core.Path.{◌≡◌, sym, ◌∙◌}
+use mathlib.Core.Path.{◌≡◌, sym}
 use mathlib.Core.Bool.{Bool}
 use mathlib.Core.List.{List}
 use Prim.Native.Nat.{ℕ, ◌+◌, ◌-◌, ◌≤◌, ◌<◌}
 use native.Mathlib.Omega.{arith}
-use lib.ListN.{length, drop, get_or, length-drop}
-use lib.Seq.{get_or-drop}
+use lib.ListN.{length, get_or}
 use Rattle.words.specs.Ways.{way_of}
 use Rattle.words.specs.Falling.{Held, FallBacks, Filled, Follows, Advances}
 use Rattle.words.proofs.Ways.{way_size}
@@ -47,10 +46,6 @@ module _ {a b falls : List ℕ} {o m i : ℕ} (h : Passed a b falls o m i) where
     pub passed_more : {row : List ℕ} {p : ℕ} → Filled b row p r → Passed a b row p r (i + 1)
     passed_more g = record { within = omega (arith, n.0); held = next; filled = g }
 
--- the band of a way of a word that comes i bands behind a start
-pub follows_from : (way : Bool) (a : List ℕ) (start i x : ℕ) → start + i < length a → x ≡ get_or (way_of way a) (start + i) 0
-    → Follows (drop start (way_of way a)) i x
-follows_from way a start i x l e = (
-  omega (arith, way_size way a, length-drop start (way_of way a)),
-  get_or-drop start (way_of way a) i 0 ∙ sym e,
-)
+-- band i of a way of a word
+pub follows_from : (way : Bool) (a : List ℕ) (i x : ℕ) → i < length a → x ≡ get_or (way_of way a) i 0 → Follows (way_of way a) i x
+follows_from way a i x l e = (omega (arith, way_size way a), sym e)

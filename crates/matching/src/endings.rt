@@ -12,10 +12,10 @@ pub fn overlap(a: Form<'_>, b: Form<'_>) -> usize
     ensures { result ≡ o.overlap (bands_of a.entry) (bands_of b.entry) }
 {
     let most = a.len().min(b.len());
-    for k in (MOST_HELD..most).rev() {
-        if a.agrees(b, k + 1) {
-            return k + 1;
+    for k in (MOST_HELD + 1..most + 1).rev() {
+        if a.last(k).begins(b) {
+            return k;
         }
     }
-    held_at_end(a, most.min(MOST_HELD), b)
+    held_at_end(a.last(most.min(MOST_HELD)), b)
 }

@@ -1,12 +1,13 @@
-// A word read as given or turned, its bands, and two of them compared band by band.
-ghost use Rattle.std.specs.Prelude.{◌≡◌, true, false, ◌≤◌, ◌<◌, length, get_or};
-ghost use Rattle.words.specs.Overlap.{agrees};
+// A word read as given or turned, its bands, its last bands, and two of them compared band by band.
+ghost use Rattle.std.specs.Prelude.{◌≡◌, true, false, ◌-◌, ◌≤◌, ◌<◌, length, drop, get_or};
+ghost use Rattle.words.specs.Stand.{begins};
 ghost use Rattle.matching.specs.Forms.{bands_of};
 
 // A word as it is read. What is Copy and borrows has no model of its own, so contracts say what is read by `bands_of`.
 #[derive(Clone, Copy)]
 pub struct Form<'a> {
     pub word: &'a [u8],
+    // A flag and no enum of two: the word is the same both ways, and only `band` and `last` ask which it is.
     pub turned: bool,
 }
 
@@ -44,17 +45,25 @@ impl<'a> Form<'a> {
         }
     }
 
-    // The last k bands are the first k of another.
-    pub(crate) fn agrees(self, other: Form<'_>, k: usize) -> bool
-        requires { (k ≤ length self.word.now) × (k ≤ length other.word.now) }
-        ensures { result ≡ agrees (bands_of self.entry) (bands_of other.entry) k }
+    // The last k bands as a form.
+    #[tactic(auto, using(crate::proofs::LastBands::turned_last))]
+    pub fn last(self, k: usize) -> Form<'a>
+        requires { k ≤ length self.word.now }
+        ensures long { length result.word.now ≡ k }
+        ensures bands { bands_of result ≡ drop (length (bands_of self.entry) - k) (bands_of self.entry) }
     {
-        let start = self.len() - k;
-        for i in 0..k {
-            if self.band(start + i) != other.band(i) {
-                return false;
-            }
+        let n = self.word.len();
+        if self.turned {
+            Form::turned(&self.word[..k])
+        } else {
+            Form::given(&self.word[n - k..])
         }
-        true
+    }
+
+    // All of it begins the other. Numbers, since a form is read from one end or the other.
+    pub(crate) fn begins(self, other: Form<'_>) -> bool
+        ensures { result ≡ begins (bands_of self.entry) (bands_of other.entry) }
+    {
+        self.len() <= other.len() && (0..self.len()).all(|i| self.band(i) == other.band(i))
     }
 }

@@ -11,6 +11,7 @@ use std::marker::Model;
 #[derive(Drop)]
 pub struct Pattern<'a> {
     form: Form<'a>,
+    // A row of its own, with no count beside it: fixed memory, and the form says how many it has.
     falls: [usize; MOST_HELD + 1],
 }
 

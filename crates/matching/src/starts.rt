@@ -6,24 +6,18 @@ ghost use Rattle.matching.specs.Forms.{bands_of};
 
 use crate::Form;
 
-// The form begins the row s.
+// The form begins the row s. No public `begins` in its place: callers have rows, and each would make a form of its row.
 pub fn begins_way(form: Form<'_>, s: &[u8]) -> bool
     ensures { result ≡ begins (bands_of form.entry) s.now }
 {
-    form.len() <= s.len() && form.agrees(Form::given(s), form.len())
+    form.begins(Form::given(s))
 }
 
-// The form stands at some start of s. A word of no bands stands at the end too.
+// The form stands at some start of s, the end among them, where a word of no bands stands.
 fn stands_way(form: Form<'_>, s: &[u8]) -> bool
     ensures { result ≡ stands_in (bands_of form.entry) s.now }
 {
-    // Numbers, since each start leaves another rest of the row.
-    for i in 0..s.len() {
-        if begins_way(form, &s[i..]) {
-            return true;
-        }
-    }
-    form.len() == 0
+    (0..s.len() + 1).any(|i| begins_way(form, &s[i..]))
 }
 
 // One way of c or the other stands in s.

@@ -11,6 +11,7 @@ pub fn put_way(form: Form<'_>, skip: usize, row: &mut [u8], at: usize) -> usize
     ensures { Written row.old at (drop skip (bands_of form.entry)) row.new result }
 {
     let n = form.len() - skip;
+    // Numbers, since a form is read from one end or the other.
     for (j, band) in row[at..at + n].iter_mut().enumerate() {
         *band = form.band(skip + j);
     }
@@ -18,6 +19,7 @@ pub fn put_way(form: Form<'_>, skip: usize, row: &mut [u8], at: usize) -> usize
 }
 
 // c is written on the row from `at` on; the answer is the place behind it.
+// One copy of the whole: `put_way` of a given form would ask at each byte which way the word is read.
 pub fn put_word(c: &[u8], row: &mut [u8], at: usize) -> usize
     requires { at + length c.now ≤ length row.old }
     ensures { Written row.old at c.now row.new result }

@@ -8,7 +8,8 @@ use crate::Orders;
 use entries::Gathered;
 use lists::{Fault, Refusal, Run};
 
-// The answer, with the words that were gathered written into the lent buffers where each is long enough.
+// The answer, with the words that were gathered written into the lent buffers where each is long enough. Four buffers, as C
+// lends them. A struct of two, a run and its lengths, was tried: moved in here, what they hold at the end stays unproved.
 pub fn hand_over(
     all: Gathered,
     bands: &mut [u8],
@@ -24,6 +25,7 @@ pub fn hand_over(
     }
     put_run(all.codes, bands, lengths);
     put_run(all.names, names, sizes);
+    // at most 128 and 16,384, as the contract says: each fits, and there is no error to give
     Ok(Orders {
         codes: all.codes.sizes.len() as u32,
         bands: all.codes.bytes.len() as u32,

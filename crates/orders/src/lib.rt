@@ -11,7 +11,7 @@ use handover::hand_over;
 use lists::{Fault, MOST_CODES, MOST_FILE_BYTES, Refusal};
 
 // What an order list holds: how many codes there are, how many bands in them, and how many bytes of names.
-#[derive(Clone, Copy, Debug, PartialEq, Eq)]
+#[derive(Clone, Copy, Debug, Default, PartialEq, Eq)]
 pub struct Orders {
     pub codes: u32,
     pub bands: u32,
@@ -35,6 +35,7 @@ pub fn read_orders(
     if file.is_empty() {
         return Err(Fault::WrongHeading.into());
     }
+    // four rows of a fixed size, as much as a file may hold: there is no heap
     let mut code_run = [0u8; MOST_FILE_BYTES];
     let mut code_lengths = [0u16; MOST_CODES];
     let mut name_run = [0u8; MOST_FILE_BYTES];

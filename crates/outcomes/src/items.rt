@@ -1,4 +1,6 @@
-// The items of buffers, and how they are said. Not by Display: bytes and records have texts of the trials' own.
+// The items of buffers, and how they are said. Not by Display alone: bytes and records have texts of the trials' own.
+ghost use Rattle.std.specs.Prelude.{◌≡◌, ℕ, ◌+◌, ◌%◌};
+
 use std::fmt;
 use std::fmt::Write;
 use telling::Checksum;
@@ -7,21 +9,26 @@ pub trait Item: Copy + PartialEq {
     // What stands between two items that are said.
     const BETWEEN: &'static str;
 
+    ghost marked: { ℕ → Self };
+
     // What item i of a lent buffer holds before a call.
-    fn mark(i: usize) -> Self;
+    fn mark(i: usize) -> Self
+        ensures { result ≡ marked i };
 
     // It is said.
     fn fmt<W: Write>(self, f: &mut fmt::Formatter<W>) -> fmt::Result;
 
-    // It goes into a checksum.
+    // It goes into a checksum. u8 and u16 alike: no body here for both, since a record is no one number.
     fn feed(self, sum: &mut Checksum);
 }
 
 impl Item for u8 {
     const BETWEEN: &'static str = "";
 
+    ghost marked = { λ i. 97 + i % 26 };
+
     fn mark(i: usize) -> Self {
-        b'a' + (i % 26) as u8
+        b'a' + (i % 26) as u8 // below 26
     }
 
     // Plainly: as itself, or behind a `\` by a letter or two digits.
@@ -42,8 +49,10 @@ impl Item for u8 {
 impl Item for u16 {
     const BETWEEN: &'static str = " ";
 
+    ghost marked = { λ i. 1000 + i % 160 };
+
     fn mark(i: usize) -> Self {
-        1000 + (i % 160) as u16
+        1000 + (i % 160) as u16 // below 160
     }
 
     fn fmt<W: Write>(self, f: &mut fmt::Formatter<W>) -> fmt::Result {

@@ -1,5 +1,5 @@
 // Buffers: their lines, and what those that are lent hold before a call and what is told of them after it.
-ghost use Rattle.std.specs.Prelude.{◌≡◌, ℕ, length, min};
+ghost use Rattle.std.specs.Prelude.{◌≡◌, ℕ, ◌<◌, ◌+◌, ◌%◌, length, min, slice_index_or};
 
 use crate::items::{Item, Listed};
 use std::fmt;
@@ -11,21 +11,31 @@ pub const MOST_BYTES: usize = 17408;
 
 pub const MOST_NUMBERS: usize = 160;
 
-// The first n items of a buffer, ready for a call; all of them where there are fewer.
-pub fn lend<T: Item>(buffer: &mut [T], n: usize) -> &mut [T]
-    ensures { length result.now ≡ min n (length buffer.old) }
+// Each item of a buffer holds its mark.
+fn mark_all<T: Item>(buffer: &mut [T])
+    ensures { (d : T) (i : ℕ) → i < length buffer.new → slice_index_or buffer.new i d ≡ T.marked i }
 {
     for (i, item) in buffer.iter_mut().enumerate() {
         *item = T::mark(i);
     }
+}
+
+// The first n items of a buffer, ready for a call; all of them where there are fewer.
+pub fn lend<T: Item>(buffer: &mut [T], n: usize) -> &mut [T]
+    ensures size { length result.now ≡ min n (length buffer.old) }
+    ensures marks { (d : T) (i : ℕ) → i < length result.now → slice_index_or result.now i d ≡ T.marked i }
+{
+    mark_all(buffer);
     let end = n.min(buffer.len());
     &mut buffer[..end]
 }
 
 // A row of bytes that is ready for a call.
-pub fn lent_row<const N: usize>() -> [u8; N] {
+pub fn lent_row<const N: usize>() -> [u8; N]
+    ensures { (d : ℕ) (i : ℕ) → i < N → slice_index_or result i d ≡ 97 + i % 26 }
+{
     let mut row = [0u8; N];
-    lend(&mut row, N);
+    mark_all(&mut row);
     row
 }
 
@@ -34,8 +44,8 @@ pub fn say_items<T: Item>(t: &mut Tally<impl Print>, label: &str, items: &[T]) -
     writeln!(t, "{label},{},{}", items.len(), Listed(items))
 }
 
-// What is told of a lent buffer of which the first items, so many, are the result: these are said with how many of the others hold what
-// they held before; the others go into the checksum.
+// What is told of a lent buffer of which the first items, so many, are the result: these are said with how many of the others
+// hold what they held before; the others go into the checksum.
 pub fn tell<T: Item>(
     t: &mut Tally<impl Print>,
     label: &str,

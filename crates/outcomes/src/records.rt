@@ -1,4 +1,7 @@
 // Place records, as the trials lend them and tell of them.
+ghost use Rattle.std.specs.Prelude.{◌≡◌};
+ghost use Rattle.outcomes.specs.Marks.{blank, place_mark};
+
 use crate::items::Item;
 use places::{Place, Way};
 use std::fmt;
@@ -9,14 +12,16 @@ use telling::Checksum;
 pub const MOST_RECORDS: usize = 130;
 
 // A record in which nothing is set, made here and not asked of places: a test says itself what an unset record holds.
-pub fn blank_record() -> Place {
+pub fn blank_record() -> Place
+    ensures { result ≡ blank }
+{
     Place {
         code: 0,
         way: Way::Given(0),
     }
 }
 
-// A way's name, its number in checksums, and its start.
+// A way's name, its number in checksums (which the reference counts by too), and its start.
 fn told(way: Way) -> (&'static str, u32, u32) {
     match way {
         Way::Given(start) => ("given", 0, start),
@@ -28,8 +33,10 @@ fn told(way: Way) -> (&'static str, u32, u32) {
 impl Item for Place {
     const BETWEEN: &'static str = ";";
 
+    ghost marked = { place_mark };
+
     fn mark(i: usize) -> Self {
-        let n = (i % MOST_RECORDS) as u32;
+        let n = (i % MOST_RECORDS) as u32; // below 130
         let start = 2000 + n;
         let way = match i % 3 {
             1 => Way::Turned(start),

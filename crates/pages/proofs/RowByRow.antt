@@ -6,7 +6,7 @@ use native.Mathlib.Numerals.{add-one}
 use native.Mathlib.Omega.{arith}
 use lib.ListN.{length, drop, drop_of_length-le, length-append}
 use lib.Seq.{drop-cons}
-use Rattle.lists.specs.Runs.{codes_in}
+use Rattle.lists.specs.Handed.{words_of}
 use Rattle.lists.proofs.Runs.{codes_count}
 use Rattle.sheet_rows.specs.Shows.{unset}
 use Rattle.sheet_rows.specs.Placed.{placed_rows}
@@ -21,18 +21,18 @@ no_rows (n ∷ ns) ss ribbon = refl
 module _ (r : Rows) where
   -- the rows from code i on
   abbrev pub rest : ℕ → List ℕ
-  rest i = placed_rows (drop i (codes_in r.names.now r.sizes.now)) (drop i r.lengths.now) (drop i r.shown.now) r.ribbon.now
+  rest i = placed_rows (drop i (words_of r.names)) (drop i r.lengths.now) (drop i r.shown.now) r.ribbon.now
 
   pub none_left : (i : ℕ) → length r.lengths.now ≤ i → rest i ≡ []
   none_left i h =
-      rw (drop_of_length-le r.lengths.now h) (no_rows (drop i (codes_in r.names.now r.sizes.now)) (drop i r.shown.now) r.ribbon.now)
+      rw (drop_of_length-le r.lengths.now h) (no_rows (drop i (words_of r.names)) (drop i r.shown.now) r.ribbon.now)
 
   module _ (i : ℕ) (h : i < length r.lengths.now) where
     pub next : rest i ≡ nth r i ++ rest (i + 1)
     next =
         rw (
           add-one,
-          drop-cons (codes_in r.names.now r.sizes.now) i [] (omega (arith, codes_count r.names.now r.sizes.now, r.there.one_each)),
+          drop-cons (words_of r.names) i [] (omega (arith, codes_count r.names.bytes.now r.names.sizes.now, r.there.one_each)),
           drop-cons r.lengths.now i 0 h,
           drop-cons r.shown.now i unset (omega (arith, r.there.shown_there)),
         )

@@ -7,8 +7,8 @@ ghost use Rattle.pages.specs.Pages.{PutsSheet};
 use fields::{Counter, Sink, Writer};
 use sheet_rows::{Rows, put_heading};
 
-// The rows of all codes are put into a sink, one after the other: by number, since name, length and place of a code lie side by
-// side.
+// The rows of all codes are put into a sink, one after the other: by number, no zip of names, lengths and what is shown, since the
+// theorem on the rows speaks of each by its number, `nth`.
 fn put_rows<S: Sink>(rows: &Rows, sink: &mut S)
     requires { Fits S.kind sink.old (all_rows rows.now) }
     ensures { Puts S.kind sink.old (all_rows rows.now) sink.new }
@@ -26,7 +26,8 @@ pub fn sheet_size(rows: &Rows) -> usize
     put_heading(&mut heading);
     let mut size = heading.size;
 
-    // A count of each row, not one of all rows: that a count fits is known of a row whose numbers were read. By number as above.
+    // A count of each row, not one of all rows: that a count fits is known of a row whose numbers were read. By number as above;
+    // no sum of a map: by how much it may grow in each turn, so that it fits, is the loop's invariant.
     for code in 0..rows.lengths.len() {
         size += rows.nth_size(code);
     }

@@ -9,6 +9,7 @@ use Rattle.std.specs.List.{list_any, range_with_len}
 use lib.ListN.{length, length-append}
 use Rattle.words.specs.Turn.{turned}
 use Rattle.words.specs.Stand.{some_way}
+use Rattle.parts.specs.Parts.{Short}
 use Rattle.greedy.specs.Dropping.{code_at, some_below, without, is_dropped_lem, kept}
 
 -- a test of some number below n, whether from the first on or from the last on
@@ -66,3 +67,12 @@ module _ (cs : List (List ℕ)) where
 
     pub sieve_end : length cs ≤ i → so_far ≡ kept turned cs
     sieve_end h = let z : length cs - i ≡ 0 = omega arith in sym (append-nil so_far) ∙ rw z at sieved.codes
+
+-- those that are kept are of the list, so none is longer
+pub kept_short : (cs : List (List ℕ)) → Short cs → Short (kept turned cs)
+kept_short cs short = go (without (dropped cs) 0 (length cs))
+  where
+    go : (xs : List ℕ) → Short (map (code_at cs) xs)
+    go [] k = omega arith
+    go (x ∷ xs) zero = short x
+    go (x ∷ xs) (suc k) = go xs k

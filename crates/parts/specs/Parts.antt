@@ -1,5 +1,5 @@
 -- Codes as parts of one run of bands.
-use Rattle.std.specs.Prelude.{List, map, ℕ, ◌≤◌, ◌<◌, length}
+use Rattle.std.specs.Prelude.{List, map, ℕ, ◌≤◌, length}
 use Rattle.std.specs.Borrow.{Bor}
 use Rattle.greedy.specs.Dropping.{code_at}
 
@@ -7,7 +7,6 @@ use Rattle.greedy.specs.Dropping.{code_at}
 abbrev pub lent : List (Bor (List ℕ)) → List (List ℕ)
 lent codes = map (λ c. c.now) codes
 
--- so few codes as a list has, none longer than a code may be
-pub record FewCodes (codes : List (List ℕ)) : Type 0 where
-  pub few : length codes ≤ 128
-  pub short : (k : ℕ) → k < length codes → length (code_at codes k) ≤ 64
+-- no code is longer than one may be (there are no bands behind the last code)
+abbrev pub Short : List (List ℕ) → Type 0
+Short codes = (k : ℕ) → length (code_at codes k) ≤ 64

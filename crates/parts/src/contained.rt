@@ -14,7 +14,7 @@ impl<'a> Parts<'a> {
     {
         let c = self.code(i);
         let s = self.code(j);
-        (c.len() < s.len() || c.len() == s.len() && j < i) && matching::stands(c, s)
+        (c.len(), j) < (s.len(), i) && matching::stands(c, s)
     }
 
     // Code i is held by some code.
@@ -30,9 +30,10 @@ impl<'a> Parts<'a> {
         ensures { result ≡ d.kept turned self.now }
     {
         let mut kept = Parts::none();
-        for i in 0..self.len() {
+        // a `for`: with nothing to collect into, a chain by `filter` would end in this push all the same
+        for (i, code) in self.codes().iter().enumerate() {
             if !self.is_dropped(i) {
-                kept.push(self.code(i));
+                kept.push(code);
             }
         }
         kept

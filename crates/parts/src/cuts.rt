@@ -5,13 +5,15 @@ ghost use Rattle.lists.specs.Handed.{words_of};
 ghost use Rattle.greedy.specs.Dropping.{code_at};
 ghost use Rattle.greedy.specs.Reading.{face_of};
 ghost use Rattle.matching.specs.Forms.{bands_of};
-ghost use Rattle.parts.specs.Parts.{lent, FewCodes};
+ghost use Rattle.parts.specs.Parts.{lent};
 
 use lists::{MOST_CODES, Run};
 use matching::Form;
 use std::marker::Model;
 
-// So few codes as a list has, none longer than a code may be. Contracts see the list of them.
+// So few codes as a list has, whatever their bands. Contracts see the list of them. Its memory is fixed, a row and a count: there
+// is no heap, and the library takes no type from outside std. That a code has at most 64 bands is no part of the invariant:
+// `cut` asks only that there is room, and takes words of any size.
 #[derive(Drop)]
 pub struct Parts<'a> {
     codes: [&'a [u8]; MOST_CODES],
@@ -20,13 +22,13 @@ pub struct Parts<'a> {
 
 impl<'a> Model for Parts<'a> {
     ghost use Rattle.std.specs.Prelude.{◌≤◌, List, ℕ, take};
-    ghost use Rattle.parts.specs.Parts.{lent, FewCodes};
+    ghost use Rattle.parts.specs.Parts.{lent};
 
     ghost Value = { List (List ℕ) };
 
     ghost view = { λ p. lent (take p.count p.codes) };
 
-    ghost invariant = { λ p. (p.count ≤ 128) × FewCodes (lent (take p.count p.codes)) };
+    ghost invariant = { λ p. p.count ≤ 128 };
 }
 
 impl<'a> Parts<'a> {
@@ -42,7 +44,7 @@ impl<'a> Parts<'a> {
 
     // One code more.
     pub(crate) fn push(&mut self, code: &'a [u8])
-        requires { (length self.old < 128) × (length code.now ≤ 64) }
+        requires { length self.old < 128 }
         ensures { self.new ≡ self.old ++ code.now ∷ [] }
     {
         self.codes[self.count] = code;
@@ -51,7 +53,7 @@ impl<'a> Parts<'a> {
 
     // The codes of a list, which are words of a run.
     pub fn cut(run: Run<'a>) -> Self
-        requires { FewCodes (words_of run) }
+        requires { length (words_of run) ≤ 128 }
         ensures { result ≡ words_of run.entry }
     {
         let mut parts = Parts::none();
@@ -64,7 +66,7 @@ impl<'a> Parts<'a> {
     // The codes themselves.
     pub(crate) fn codes(&self) -> &[&'a [u8]]
         ensures same { lent result.now ≡ self.now }
-        ensures few { FewCodes self.now }
+        ensures few { length self.now ≤ 128 }
     {
         &self.codes[..self.count]
     }
@@ -72,7 +74,7 @@ impl<'a> Parts<'a> {
     // How many there are.
     pub fn len(&self) -> usize
         ensures count { result ≡ length self.now }
-        ensures few { FewCodes self.now }
+        ensures few { length self.now ≤ 128 }
     {
         self.codes().len()
     }
@@ -80,17 +82,15 @@ impl<'a> Parts<'a> {
     // Code number k.
     pub(crate) fn code(&self, k: usize) -> &'a [u8]
         requires { k < length self.now }
-        ensures same { result.now ≡ code_at self.now k }
-        ensures short { length result.now ≤ 64 }
+        ensures { result.now ≡ code_at self.now k }
     {
         self.codes()[k]
     }
 
-    // Face f: code f / 2 as given, or turned where f is odd.
+    // Face f: code f / 2 as given, or turned where f is odd. Document 01 gives code k the faces 2k and 2k + 1.
     pub fn face(&self, f: usize) -> Form<'a>
         requires { f < 2 * length self.now }
-        ensures same { bands_of result ≡ face_of turned self.now f }
-        ensures short { length result.word.now ≤ 64 }
+        ensures { bands_of result ≡ face_of turned self.now f }
     {
         Form {
             word: self.code(f / 2),

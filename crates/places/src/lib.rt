@@ -1,14 +1,14 @@
 // Places of all codes on a row.
 #![tactic(auto)]
 
-ghost use Rattle.std.specs.Prelude.{◌≡◌, true, ◌≤◌, length};
-ghost use Rattle.lists.specs.Fit.{list_ok_lem};
+ghost use Rattle.std.specs.Prelude.{◌≡◌, ◌≤◌, length};
 ghost use Rattle.places.specs.Calls.{FindsPlaces, blanks};
 
 mod records; // the record of a code
 
 use finding::find_place;
-use lists::{MOST_CODES, Run};
+use fitness::FitList;
+use lists::MOST_CODES;
 use records::record_of;
 pub use records::{count_from, find_nth};
 
@@ -23,7 +23,7 @@ pub struct Place {
 }
 
 // The records of the codes that have a place, so many, at the front of a row: no list is longer than the row, and no memory is
-// asked for.
+// asked for. A count beside the row, since contracts tell what stands behind it as well: none is set there.
 #[derive(Drop)]
 pub struct Sought {
     pub count: usize,
@@ -40,24 +40,21 @@ pub fn blank() -> [Place; MOST_CODES]
     }; MOST_CODES]
 }
 
-// The places of the codes of a fit list, in list order, until one has none.
-pub fn find_places(bands: &[u8], lengths: &[u16], ribbon: &[u8]) -> Sought
-    requires { (list_ok_lem bands.now lengths.now ≡ true) × (length ribbon.now ≤ 16384) }
-    ensures { FindsPlaces bands.now lengths.now ribbon.now result.count result.records }
+// The places of the codes of a fit list, in list order, until one has none. No type of a list with a ribbon of so many bands:
+// verdicts knows the bound by a test and writer by the layout, and each would make the type only to hand it on.
+pub fn find_places(list: FitList<'_>, ribbon: &[u8]) -> Sought
+    requires { length ribbon.now ≤ 16384 }
+    ensures { FindsPlaces list.entry.codes.bytes.now list.entry.codes.sizes.now ribbon.now result.count result.records }
 {
-    let codes = Run {
-        bytes: bands,
-        sizes: lengths,
-    };
     let mut records = blank();
-    for (i, code) in codes.enumerate() {
+    for (i, code) in list.codes.enumerate() {
         let Some(way) = find_place(code, ribbon, 0) else {
             return Sought { count: i, records };
         };
         records[i] = record_of(way, i);
     }
     Sought {
-        count: lengths.len(),
+        count: list.codes.sizes.len(),
         records,
     }
 }

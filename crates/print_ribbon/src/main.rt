@@ -3,7 +3,7 @@
 
 use ribbons::{MOST_BANDS, MOST_FILE_BYTES};
 
-// one byte more shows that a file is too long
+// one byte more shows that a file is too long: said in each program, since `files` knows no limits and no call needs the room
 const ROOM: usize = MOST_FILE_BYTES + 1;
 
 // a ribbon and CR LF
@@ -11,6 +11,7 @@ const LINE: usize = MOST_BANDS + 2;
 
 // As in `print_sheet`: all but the call and its row stands in `files` and in std.
 fn main(rt: HostRuntime) {
+    // two rows of a fixed size, each as long as it can be of use: there is no heap
     let mut file = [0u8; ROOM];
     let n = files::read_whole(&mut rt.stdin(), &mut file);
     let mut out = [0u8; LINE];

@@ -1,6 +1,6 @@
 -- The line of a check is the line of its answer: a fit list is not refused, and there is room for all of its records. So each
 -- answer that is left is one for which the program's claim has the line.
-use Rattle.std.proofs.Common.{◌≡◌, sym, ap, subst, ◌∙◌, true, List, [], ℕ, ◌≤◌, arith, ℤ, length, replicate, w32, to_z, of_z, Result, Ok}
+use Rattle.std.proofs.Common.{◌≡◌, sym, subst, true, List, [], ℕ, ◌≤◌, arith, ℤ, length, replicate, w32, to_z, of_z, Result, Ok}
 use lib.ListN.{length-replicate, length-map}
 use mir.Val.{SFits}
 use mir.ValLaws.{to_z-of_z}
@@ -11,7 +11,7 @@ use Rattle.lists.specs.Fit.{list_ok_lem}
 use Rattle.lists.specs.declared.numbers.Refusal.{Refusal}
 use Rattle.lists.proofs.Rules.{codes_checked, is_fit_list}
 use Rattle.grammar.specs.RibbonFile.{ribbon_of_lem}
-use Rattle.checking.specs.Answers.{CheckAnswer, refused, missing_code, held, PlaceRecord, CheckOutcome, ChecksInto}
+use Rattle.checking.specs.Answers.{PlaceRecord, CheckOutcome, ChecksInto}
 use Rattle.checking.specs.Answers.{false_list, long_ribbon, no_colour, no_place, short_buffer, filled}
 use Rattle.places.specs.Calls.{record_of_lem, place_for}
 use Rattle.verdicts.specs.Calls.{answer_of, ChecksAlone}
@@ -19,16 +19,12 @@ use Rattle.places.specs.declared.Place as declared
 use Rattle.verdicts.specs.declared.Checked.{Checked}
 use Rattle.verdicts.specs.declared.Checked.TheVariants.{Held}
 use Rattle.sheets.proofs.Decimal.{digits_ours}
-use Rattle.programs.specs.Programs.{refused_line_lem, held_line_lem, missing_line_lem, checked_line, WritesOver}
+use Rattle.programs.specs.Programs.{held_line_lem, checked_line, WritesOver}
 use Rattle.programs.specs.Prints.{CheckLine}
 use Rattle.programs.specs.Prints as p
 use Rattle.programs.proofs.Prints.{line_ours, signed_ours, check_line_only}
+use Rattle.lines.specs.Lines.{line_of}
 use Rattle.ribbons.proofs.Outputs.{writes_over}
-
-abbrev pub line_of : CheckAnswer → List ℕ
-line_of (refused r) = refused_line_lem r
-line_of (missing_code k) = missing_line_lem k
-line_of (held d) = held_line_lem d
 
 -- each case of the claim on a check is a case of the claim on the program's line
 module _ (run ls row : List ℕ) (ok : list_ok_lem run ls ≡ true) where
@@ -52,12 +48,9 @@ module _ (run ls row : List ℕ) (ok : list_ok_lem run ls ≡ true) where
       let long = length-replicate 128 one in
       check_line_only row [] codes (line_of_lem (omega (arith, length-map blank record_of_lem)) (h.checks blank (omega arith)).means)
 
-  pub check_written : {r x : Result Checked Refusal} {before after : List ℕ} {n : ℕ} → ChecksAlone run ls row r → r ≡ x
-      → (n ≡ length (line_of (answer_of x))) × (after ≡ over (line_of (answer_of x)) before)
-      → WritesOver (checked_line codes row) before after n
-  check_written {x = x} {before} {after} {n} p e w =
-      let f = ap (λ (c : Result Checked Refusal). line_of (answer_of c)) (sym e) ∙ line_is p in
-      subst (λ (t : List ℕ). WritesOver t before after n) f (writes_over w.0 w.1)
+  pub check_written : {r : Result Checked Refusal} {before after : List ℕ} {n : ℕ} → ChecksAlone run ls row r
+      → WritesOver (line_of (answer_of r)) before after n → WritesOver (checked_line codes row) before after n
+  check_written {before = before} {after} {n} p w = subst (λ (t : List ℕ). WritesOver t before after n) (line_is p) w
 
   -- the difference is handed on as the number that its 32 bits are
   pub held_checked : {r : Result Checked Refusal} {before after : List ℕ} {n : ℕ} (d : ℤ) → SFits w32 d → ChecksAlone run ls row r → r ≡ Ok (Held d)
@@ -65,8 +58,8 @@ module _ (run ls row : List ℕ) (ok : list_ok_lem run ls ≡ true) where
       → WritesOver (checked_line codes row) before after n
   held_checked {before = before} {after} {n} d f p e w =
       let g = to_z-of_z w32 d f in
-      check_written p e
-      (subst (λ (z : ℤ). (n ≡ length (held_line_lem z)) × (after ≡ over (held_line_lem z) before)) g w)
+      let v = subst (λ (z : ℤ). (n ≡ length (held_line_lem z)) × (after ≡ over (held_line_lem z) before)) g w in
+      check_written p (subst (λ (c : Result Checked Refusal). WritesOver (line_of (answer_of c)) before after n) (sym e) (writes_over v.0 v.1))
 
 -- the ribbon is the one of the file
 pub of_file : (codes : List (List ℕ)) (file : List ℕ) {row before after : List ℕ} {n : ℕ} → row ≡ ribbon_of_lem file

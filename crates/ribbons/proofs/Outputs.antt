@@ -148,12 +148,11 @@ module _ (written : files.Orders → List ℕ) (file : List ℕ) {before after :
   writes_list e w = subst (λ (o : files.Orders). WritesOver (written_for written o) before after n) (sym e) w
 
   pub writes_refused : (r : Refusal) → read_orders_lem file ≡ files.bad (number_of r.fault) r.row
-      → (n ≡ length (refused_line_lem (refusal_of r))) × (after ≡ over (refused_line_lem (refusal_of r)) before)
-      → WritesOver (of_list written file) before after n
+      → WritesOver (refused_line_lem (refusal_of r)) before after n → WritesOver (of_list written file) before after n
   writes_refused r e w =
       let t = ne_eqb (number_of r.fault) 0 (λ z. omega (arith, some_number r.fault, z)) in
       subst (λ (o : files.Orders). WritesOver (written_for written o) before after n) (sym e)
-      (rw (t, written_for) (writes_over w.0 w.1))
+      (rw (t, written_for) w)
 
 -- The same from the call's answer.
 module _ (written : files.Orders → List ℕ) (file : List ℕ) {b left : Lent} {r : Result Orders Refusal} (p : ReadsOrders file b left r) where
@@ -169,8 +168,7 @@ module _ (written : files.Orders → List ℕ) (file : List ℕ) {b left : Lent}
 
   pub writes_refusal : {x : Refusal} → r ≡ Err x → 8192 ≤ length b.code_run → 128 ≤ length b.code_lengths
       → 3072 ≤ length b.name_run → 128 ≤ length b.name_lengths → {before after : List ℕ} {n : ℕ}
-      → (n ≡ length (refused_line_lem (refusal_of x))) × (after ≡ over (refused_line_lem (refusal_of x)) before)
-      → WritesOver (of_list written file) before after n
+      → WritesOver (refused_line_lem (refusal_of x)) before after n → WritesOver (of_list written file) before after n
   writes_refusal {x} e k l m o w =
       let f = subst (Means file b left) e p.means in
       writes_refused written file x (refused_as k l m o f.0) w

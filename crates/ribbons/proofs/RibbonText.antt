@@ -10,7 +10,7 @@ use Rattle.grammar.specs.Files.{line_break}
 use Rattle.greedy.specs.Layout.{ribbon_for}
 use Rattle.greedy.proofs.Room.{ribbon_at_most}
 use Rattle.layout.specs.Calls.{LaysRibbon}
-use Rattle.layout.specs.declared.Laid.{Laid}
+use Rattle.layout.specs.Laid.{Laid}
 use Rattle.layout.proofs.Calls.{size_is, left_is}
 use Rattle.programs.specs.Programs.{WritesOver}
 use Rattle.ribbons.proofs.Outputs.{writes_over}

@@ -29,7 +29,7 @@ use Rattle.greedy.specs.Layout.{ribbon_for, saved_by}
 use Rattle.greedy.specs.Answers.{LayOutcome, laid, LaysOut, lay_outcome}
 use Rattle.greedy.specs.Starred.{Starred}
 use Rattle.layout.specs.Calls.{LaysRibbon}
-use Rattle.layout.specs.declared.Laid.{Laid}
+use Rattle.layout.specs.Laid.{Laid}
 use Rattle.sheets.specs.Sheet.{SheetFor}
 use Rattle.sheets.specs.Answers.{SheetOutcome, written, Sheets, sheet_for, sheet_outcome}
 use Rattle.sheets.specs.ReadBack.{ReadsBack}

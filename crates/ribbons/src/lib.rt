@@ -20,6 +20,7 @@ pub use writer::{Wrote, write_sheet};
 // refusals, which all of them give
 pub use lists::{Fault, Refusal};
 // sizes that always suffice
+pub use lines::MOST_LINE_BYTES;
 pub use lists::{
     MOST_BANDS, MOST_CODES, MOST_FILE_BYTES, MOST_NAME_BYTES, MOST_SHEET_BYTES, MOST_SUPPLIED_BANDS,
 };

@@ -2,11 +2,12 @@
 ghost use Rattle.std.specs.Prelude.{◌≡◌, true, ◌≤◌, length, take};
 ghost use Rattle.lists.specs.Fit.{list_ok_lem, names_ok_lem};
 
+use fitness::{FitList, FitNames};
 use lists::{MOST_BANDS, MOST_CODES, MOST_NAME_BYTES, Refusal, Run};
 use orders::{Orders, read_orders};
 
-// How much was read, at the beginnings of buffers that suffice for any list, since no memory is asked for. Its codes and names
-// are fit.
+// How much was read, at the beginnings of buffers that suffice for any list: no heap, so fixed memory with the counts beside it, as
+// read_orders fills slices that are lent and answers counts. Its codes and names are fit.
 #[derive(Drop)]
 pub struct OrderList {
     pub counts: Orders,
@@ -44,29 +45,30 @@ impl OrderList {
     }
 
     // Its codes.
-    pub fn codes(&self) -> Run<'_>
-        ensures words { words_of result ≡ codes_of self.now }
-        ensures count { length result.sizes.now ≡ self.now.counts.codes }
-        ensures fit { list_ok_lem result.bytes.now result.sizes.now ≡ true }
+    pub fn codes(&self) -> FitList<'_>
+        ensures words { words_of result.codes ≡ codes_of self.now }
+        ensures count { length result.codes.sizes.now ≡ self.now.counts.codes }
     {
         let bands = self.counts.bands as usize;
         let codes = self.counts.codes as usize;
-        Run {
+        let codes = Run {
             bytes: &self.bands[..bands],
             sizes: &self.lengths[..codes],
-        }
+        };
+        FitList { codes }
     }
 
     // Its names. A method of their own: codes and names are fit by different rules, and each says its own.
-    pub fn names(&self) -> Run<'_>
-        ensures words { words_of result ≡ names_of self.now }
-        ensures fit { names_ok_lem self.now.counts.codes result.bytes.now result.sizes.now ≡ true }
+    pub fn names(&self) -> FitNames<'_>
+        ensures words { words_of result.names ≡ names_of self.now }
+        ensures count { length result.names.sizes.now ≡ self.now.counts.codes }
     {
         let bytes = self.counts.names as usize;
         let names = self.counts.codes as usize;
-        Run {
+        let names = Run {
             bytes: &self.names[..bytes],
             sizes: &self.sizes[..names],
-        }
+        };
+        FitNames { names }
     }
 }

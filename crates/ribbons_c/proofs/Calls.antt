@@ -16,7 +16,7 @@ use Rattle.orders.specs.declared.Orders.{Orders}
 use Rattle.greedy.specs.Answers.{LayAnswer, LayOutcome, LaysInto}
 use Rattle.greedy.specs.Answers as lays
 use Rattle.layout.specs.Calls.{LaysRibbon}
-use Rattle.layout.specs.declared.Laid.{Laid}
+use Rattle.layout.specs.Laid.{Laid}
 use Rattle.checking.specs.Answers.{CheckAnswer, CheckOutcome, PlaceRecord, ChecksInto}
 use Rattle.checking.specs.Answers as checks
 use Rattle.places.specs.Calls.{blanks}

@@ -11,7 +11,7 @@ use Rattle.grammar.specs.RibbonFile.{RibbonFile, ribbon_of_lem}
 use Rattle.orders.specs.Calls.{ReadsOrders}
 use Rattle.orders.specs.declared.Orders.{Orders}
 use Rattle.layout.specs.Calls.{LaysRibbon}
-use Rattle.layout.specs.declared.Laid.{Laid}
+use Rattle.layout.specs.Laid.{Laid}
 use Rattle.verdicts.specs.Calls.{ChecksAlone}
 use Rattle.verdicts.specs.declared.Checked.{Checked}
 use Rattle.verdicts.specs.declared.Checked.TheVariants.{Missing, Held}

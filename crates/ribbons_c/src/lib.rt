@@ -1,5 +1,5 @@
 // The calls for programs in C. A slice passes as a pointer and a count; an answer is plain data, since an enum cannot pass.
-// In each, refused is the refusal's number, and 0 where nothing is refused; what does not apply is 0, or false.
+// In each answer with `refused`, that is the refusal's number, and 0 where nothing is refused; what does not apply is 0, or false.
 #![tactic(auto)]
 
 ghost use Rattle.grammar.specs.Answers.{lent};

@@ -1,9 +1,11 @@
-// Answers as plain data, since no enum passes to C: what does not apply has the default, 0 or false.
+// Answers as plain data, since no enum, Option or Result passes to C: what does not apply has the default, 0 or false. The C header
+// has four structs, each with its own `refused`: so each says what it gives for a refusal, and two of them differ in one name.
 ghost use Rattle.std.specs.Prelude.{◌≡◌};
 
 use ribbons::{Checked, Laid, Orders, Refusal, Wrote};
 
-// The refusal's row; how many codes there are, how many bands in them, and how many bytes of names.
+// The refusal's row; how many codes there are, how many bands in them, and how many bytes of names. `refused` is a number,
+// as C reads it.
 #[repr(C)]
 #[derive(Clone, Copy, Default)]
 pub struct RibbonsOrders {
@@ -36,7 +38,7 @@ impl From<Result<Orders, Refusal>> for RibbonsOrders {
     }
 }
 
-// The ribbon's length and the bands saved.
+// The ribbon's length and the bands saved. `refused` is a number, as C reads it.
 #[repr(C)]
 #[derive(Clone, Copy, Default)]
 pub struct RibbonsLaid {
@@ -65,7 +67,8 @@ impl From<Result<Laid, Refusal>> for RibbonsLaid {
     }
 }
 
-// Whether the ribbon holds every code; if not, the number of the first that is missing; if so, the difference.
+// Whether the ribbon holds every code; if not, the number of the first that is missing; if so, the difference. `refused` is a
+// number, and `held` stands beside what it speaks of, as C reads them.
 #[repr(C)]
 #[derive(Clone, Copy, Default)]
 pub struct RibbonsChecked {
@@ -99,7 +102,7 @@ impl From<Result<Checked, Refusal>> for RibbonsChecked {
     }
 }
 
-// The sheet's length and the bands that its ribbon saves.
+// The sheet's length and the bands that its ribbon saves. `refused` is a number, as C reads it.
 #[repr(C)]
 #[derive(Clone, Copy, Default)]
 pub struct RibbonsSheet {

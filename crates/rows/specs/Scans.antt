@@ -5,6 +5,10 @@ use Rattle.grammar.specs.Rows.{Row, first_row}
 use Rattle.grammar.specs.Orders.{name_in, code_in}
 use Rattle.rows.specs.declared.scan.RowRead.{RowRead}
 
+-- two buffers take whatever fields the row that begins here has
+abbrev pub TakesRow : List ℕ → List ℕ → List ℕ → Type 0
+TakesRow here names bands = (length here ≤ length names) × (length here ≤ length bands)
+
 -- the row x: how wide it is, what comes after it, and its two fields where it has two
 pub record RowFound (here names bands : List ℕ) (x : Row) (r : RowRead) : Type 0 where
   pub good : x.good ≡ true

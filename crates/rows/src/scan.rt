@@ -1,8 +1,8 @@
 // The scan of one row of an RFC 4180 file, byte by byte.
-ghost use Rattle.std.specs.Prelude.{◌≡◌, ◌≢◌, ℕ, ◌+◌, ◌≤◌, ◌<◌, length, slice_set, Option};
+ghost use Rattle.std.specs.Prelude.{◌≡◌, ◌≢◌, ℕ, ◌+◌, ◌<◌, length, slice_set, Option};
 ghost use Rattle.grammar.specs.Files.{quote};
 ghost use Rattle.grammar.specs.Rows.{Outside, takes_text, outside, inside};
-ghost use Rattle.rows.specs.Scans.{ReadsRow};
+ghost use Rattle.rows.specs.Scans.{TakesRow, ReadsRow};
 ghost use Rattle.rows.specs.Taken.{mode_of, Takes};
 
 // A row as read: how many fields it has, the lengths of the contents of the first two, and how many bytes it takes up.
@@ -45,7 +45,8 @@ fn take_inside(b: u8) -> Step
     }
 }
 
-// Outside quotes, a quote apart; text says whether unquoted text may stand here.
+// Outside quotes, a quote apart; text says whether unquoted text may stand here. A bool: of the three places outside quotes,
+// the first two do alike with all other bytes.
 fn take_outside(text: bool, b: u8, next: Option<u8>) -> Step
     requires { b ≢ quote }
     ensures { (o : Outside) → takes_text o ≡ text → Takes (outside o) b next result }
@@ -73,10 +74,10 @@ fn take_byte(mode: Mode, b: u8, next: Option<u8>) -> Step
 }
 
 // The row that begins here, or none where it breaks the grammar: the contents of its first two fields go to the
-// beginnings of the buffers. Two buffers and no struct of them: one that holds a `&mut` needs a clause more in each function
-// that it is lent to, that the reference stays the same.
+// beginnings of the buffers. Two buffers and no struct of them: where one that holds a `&mut` is lent on, each contract on the
+// way has to say that the reference stays the same (as `at_last` does in the law of fields::Writer), here for two of them.
 pub fn read_row(here: &[u8], names: &mut [u8], bands: &mut [u8]) -> Option<RowRead>
-    requires { (length here.now ≤ length names.old) × (length here.now ≤ length bands.old) }
+    requires { TakesRow here.now names.old bands.old }
     ensures { ReadsRow here.now names.new bands.new result }
 {
     let mut mode = Mode::Start;
@@ -88,6 +89,7 @@ pub fn read_row(here: &[u8], names: &mut [u8], bands: &mut [u8]) -> Option<RowRe
     };
     for (i, &b) in here.iter().enumerate() {
         row.size = i + 1;
+        // the next byte by number, which is the row's size so far, and so is counted in any case: no `peekable`
         match take_byte(mode, b, here.get(i + 1).copied()) {
             Step::Comma => {
                 row.fields += 1;

@@ -13,6 +13,7 @@ use Rattle.grammar.specs.Quoting.{field_text}
 use Rattle.greedy.specs.Dropping.{code_at}
 use Rattle.parts.proofs.Cutting.{total_part, code_at_lem}
 use Rattle.places.specs.Calls.{way_at}
+use Rattle.finding.specs.Answers.{start_of}
 use Rattle.finding.specs.declared.Way.{Way}
 use Rattle.finding.specs.declared.Way.TheVariants.{Given, Turned, Either}
 use Rattle.sheets.specs.Decimal.{decimal}
@@ -20,7 +21,7 @@ use Rattle.sheets.specs.Sheet.{row_text, place_fields, bands_at}
 use Rattle.sheets.proofs.Decimal.{decimal_few}
 use Rattle.fields.proofs.Quoted.{field_few}
 use Rattle.sheet_rows.specs.Shows.{unset, nth_shown}
-use Rattle.sheet_rows.specs.Placed.{placed_row, way_text, places_text, start_of, placed_rows, nth_row, RowsThere}
+use Rattle.sheet_rows.specs.Placed.{placed_row, way_text, places_text, placed_rows, nth_row, RowsThere}
 use Rattle.sheet_rows.specs.Sheets.{five_columns}
 use Rattle.sheet_rows.specs.declared.pieces.Shown.{Shown}
 use Rattle.sheet_rows.specs.declared.rows.Row.{Row}

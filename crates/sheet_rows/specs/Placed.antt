@@ -6,6 +6,7 @@ use Rattle.greedy.specs.Dropping.{code_at}
 use Rattle.grammar.specs.Files.{comma, line_break}
 use Rattle.grammar.specs.Quoting.{field_text}
 use Rattle.places.specs.Calls.{way_at}
+use Rattle.finding.specs.Answers.{start_of}
 use Rattle.finding.specs.declared.Way.{Way}
 use Rattle.finding.specs.declared.Way.TheVariants.{Given, Turned, Either}
 use Rattle.sheets.specs.Decimal.{decimal}
@@ -35,12 +36,6 @@ way_text (Either i) = text ",either,"
 -- a number of places between its comma and the end of the row
 abbrev pub places_text : ℕ → List ℕ
 places_text k = comma ∷ (decimal k ++ line_break)
-
--- the start of a place
-abbrev pub start_of : Way ℕ → ℕ
-start_of (Given i) = i
-start_of (Turned i) = i
-start_of (Either i) = i
 
 -- the row of code i
 abbrev pub nth_row : (names sizes ls : List ℕ) → List Shown → List ℕ → ℕ → List ℕ

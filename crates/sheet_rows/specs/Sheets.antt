@@ -1,6 +1,6 @@
 -- The rows of a sheet, by what they are made of.
 use Rattle.std.specs.Prelude.{List, ◌∷◌, ◌++◌, ℕ}
-use Rattle.lists.specs.Runs.{codes_in}
+use Rattle.lists.specs.Handed.{words_of}
 use Rattle.grammar.specs.Files.{comma}
 use Rattle.grammar.specs.Quoting.{field_text}
 use Rattle.sheets.specs.Decimal.{decimal}
@@ -15,12 +15,12 @@ five_columns r =
 
 -- the row of code i
 abbrev pub nth : Rows → ℕ → List ℕ
-nth r i = nth_row r.names.now r.sizes.now r.lengths.now r.shown.now r.ribbon.now i
+nth r i = nth_row r.names.bytes.now r.names.sizes.now r.lengths.now r.shown.now r.ribbon.now i
 
 -- all rows
 abbrev pub all_rows : Rows → List ℕ
-all_rows r = placed_rows (codes_in r.names.now r.sizes.now) r.lengths.now r.shown.now r.ribbon.now
+all_rows r = placed_rows (words_of r.names) r.lengths.now r.shown.now r.ribbon.now
 
 -- the heading and the rows
 abbrev pub sheet : Rows → List ℕ
-sheet r = placed_sheet (codes_in r.names.now r.sizes.now) r.lengths.now r.shown.now r.ribbon.now
+sheet r = placed_sheet (words_of r.names) r.lengths.now r.shown.now r.ribbon.now

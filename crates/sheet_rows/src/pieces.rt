@@ -1,8 +1,7 @@
 // What a row shows of where a code stands, and the pieces of rows.
-ghost use Rattle.std.specs.Prelude.{◌≡◌};
 ghost use Rattle.fields.specs.Sinks.{Fits, Puts};
 ghost use Rattle.sheets.specs.Sheet.{row_text, sheet_heading};
-ghost use Rattle.sheet_rows.specs.Placed.{way_text, places_text, start_of};
+ghost use Rattle.sheet_rows.specs.Placed.{way_text, places_text};
 
 use fields::{Sink, put_decimal};
 use places::Way;
@@ -14,19 +13,6 @@ pub struct Shown {
     pub places: u32,
 }
 
-impl Shown {
-    // The start of the place.
-    pub fn start(self) -> u32
-        ensures { result ≡ start_of self.way }
-    {
-        match self.way {
-            Way::Given(i) => i,
-            Way::Turned(i) => i,
-            Way::Either(i) => i,
-        }
-    }
-}
-
 // The heading row is put into a sink.
 pub fn put_heading<S: Sink>(sink: &mut S)
     requires { Fits S.kind sink.old (row_text sheet_heading) }
@@ -35,8 +21,8 @@ pub fn put_heading<S: Sink>(sink: &mut S)
     sink.put(b"name,way,start,bands,places\r\n");
 }
 
-// A way between its two commas is put into a sink.
-pub fn put_way<S: Sink>(way: Way, sink: &mut S)
+// A way between its two commas is put into a sink. No Display: it promises its text only of a write that succeeds.
+pub(crate) fn put_way_field<S: Sink>(way: Way, sink: &mut S)
     requires { Fits S.kind sink.old (way_text way) }
     ensures { Puts S.kind sink.old (way_text way) sink.new }
 {
@@ -48,7 +34,7 @@ pub fn put_way<S: Sink>(way: Way, sink: &mut S)
 }
 
 // The number of places between its comma and CR LF is put into a sink.
-pub fn put_places<S: Sink>(places: u32, sink: &mut S)
+pub(crate) fn put_places<S: Sink>(places: u32, sink: &mut S)
     requires { Fits S.kind sink.old (places_text places) }
     ensures { Puts S.kind sink.old (places_text places) sink.new }
 {

@@ -3,24 +3,24 @@ ghost use Rattle.std.specs.Prelude.{◌<◌, ◌≤◌, ◌≡◌, length};
 ghost use Rattle.fields.specs.Sinks.{Fits, Puts};
 ghost use Rattle.sheet_rows.specs.Placed.{RowsThere};
 
-use crate::pieces::{Shown, put_places, put_way};
+use crate::pieces::{Shown, put_places, put_way_field};
 use fields::{Counter, Sink, put_decimal, put_field};
 use fitness::sum_of;
+use lists::Run;
 use places::Way;
 
 // What the rows of a sheet are made of: the names and the codes' lengths as they are handed over, what is shown of each code,
 // and the ribbon.
 #[derive(Clone, Copy)]
 pub struct Rows<'a> {
-    pub names: &'a [u8],
-    pub sizes: &'a [u16],
-    // Two rows: the lengths stay as they are handed over.
+    pub names: Run<'a>,
+    // A row beside that of what is shown: the lengths stay as they are handed over.
     pub lengths: &'a [u16],
     pub shown: &'a [Shown],
     pub ribbon: &'a [u8],
 
     // Names, lengths and what is shown are there for each code, and each place lies on the ribbon.
-    ghost there: { RowsThere names.now sizes.now lengths.now shown.now ribbon.now },
+    ghost there: { RowsThere names.bytes.now names.sizes.now lengths.now shown.now ribbon.now },
 }
 
 // A row, by its columns.
@@ -44,7 +44,7 @@ impl Row<'_> {
         ensures { Puts S.kind sink.old (five_columns self.entry) sink.new }
     {
         put_field(self.name, sink);
-        put_way(self.way, sink);
+        put_way_field(self.way, sink);
         put_decimal(self.start, sink);
         sink.put(b",");
         sink.put(self.bands);
@@ -64,19 +64,20 @@ impl Row<'_> {
 impl Rows<'_> {
     ghost use Rattle.sheet_rows.specs.Sheets.{five_columns, nth};
 
-    // The row of code i. Its name starts behind those before it.
+    // The row of code i. Its name starts behind those before it; it is cut by its size, no item by `nth`: that a size of 16 bits is
+    // read here says that the name is short.
     fn row(&self, i: usize) -> Row<'_>
         requires { i < length self.now.lengths.now }
         ensures { five_columns result ≡ nth self.now i }
     {
-        let from = sum_of(&self.sizes[..i]);
-        let to = from + usize::from(self.sizes[i]);
+        let from = sum_of(&self.names.sizes[..i]);
+        let to = from + usize::from(self.names.sizes[i]);
         let shown = self.shown[i];
-        let start = shown.start();
+        let start = shown.way.start();
         let first = start as usize;
         let end = first + usize::from(self.lengths[i]);
         Row {
-            name: &self.names[from..to],
+            name: &self.names.bytes[from..to],
             way: shown.way,
             start,
             bands: &self.ribbon[first..end],

@@ -1,46 +1,41 @@
 // What the rows show of where each code stands.
-ghost use Rattle.std.specs.Prelude.{◌≡◌, true, ◌≤◌, length, take, drop};
-ghost use Rattle.lists.specs.Fit.{list_ok_lem};
-ghost use Rattle.places.specs.Calls.{FindsPlaces};
-ghost use Rattle.sheet_rows.specs.Shows.{HasPlace, ShowsCode, ShowsCodes};
+ghost use Rattle.sheet_rows.specs.Shows.{HasPlace, AllPlaced, ShowsCode, ShowsCodes};
 
 use crate::pieces::Shown;
+use fitness::FitList;
 use lists::MOST_CODES;
 use places::{Place, Way, count_from};
 
-// What is shown of the code of so many bands that starts at a number in the lent run. It stands nowhere before its place, so
-// counting begins there.
-fn show_code(bands: &[u8], at: usize, size: usize, ribbon: &[u8], way: Way) -> Shown
-    requires { HasPlace bands.now at size ribbon.now way }
-    ensures { ShowsCode (take size (drop at bands.now)) ribbon.now result }
+// What is shown of a code that has its place this way. It stands nowhere before its place, so counting begins there.
+fn show_code(code: &[u8], ribbon: &[u8], way: Way) -> Shown
+    requires { HasPlace code.now ribbon.now way }
+    ensures { ShowsCode code.now ribbon.now result }
 {
     let mut shown = Shown { way, places: 0 };
-    let start = shown.start() as usize;
-    let places = count_from(bands, at, size, ribbon, start);
+    let start = way.start() as usize;
+    let places = count_from(code, ribbon, start);
+    // no more than the ribbon has bands: it fits, and there is no error to give
     shown.places = places as u32;
     shown
 }
 
-// What is shown of each code of a fit list, in list order, by the records of their places: by number, since both rows are longer
-// than the list.
+// What is shown of each code of a fit list, in list order, by the records of their places. Records and what is shown are rows as
+// long as any list may be, so that no memory is asked for: what is of a code has its number. No zip with the records: what is shown
+// is written by number, and a record read by the same.
 pub fn show_codes(
-    bands: &[u8],
-    lengths: &[u16],
+    list: FitList<'_>,
     ribbon: &[u8],
     records: [Place; MOST_CODES],
 ) -> [Shown; MOST_CODES]
-    requires { (list_ok_lem bands.now lengths.now ≡ true) × (length ribbon.now ≤ 16384) × FindsPlaces bands.now lengths.now ribbon.now (length lengths.now) records }
-    ensures { ShowsCodes bands.now lengths.now ribbon.now result }
+    requires { AllPlaced list.codes.bytes.now list.codes.sizes.now ribbon.now records }
+    ensures { ShowsCodes list.entry.codes.bytes.now list.entry.codes.sizes.now ribbon.now result }
 {
     let mut shown = [Shown {
         way: Way::Given(0),
         places: 0,
     }; MOST_CODES];
-    let mut at = 0;
-    for (i, length) in lengths.iter().enumerate() {
-        let size = usize::from(*length);
-        shown[i] = show_code(bands, at, size, ribbon, records[i].way);
-        at += size;
+    for (i, code) in list.codes.enumerate() {
+        shown[i] = show_code(code, ribbon, records[i].way);
     }
     shown
 }

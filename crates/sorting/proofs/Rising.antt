@@ -13,8 +13,8 @@ use Rattle.std.specs.Ordering.{ordering_index}
 use Rattle.std.proofs.lemmas.Bool.Decides.{nat_tests}
 use Rattle.words.specs.Turn.{turned}
 use Rattle.greedy.specs.Reading.{face_of}
-use Rattle.sorting.specs.Sorted.{side_of, NotBefore, ending, Rising, SortedBelow, side_at, Narrowed, Inserted}
-use Rattle.sorting.proofs.Sides.{side_rises, side_total, ending_whole}
+use Rattle.sorting.specs.Sorted.{side_of, NotBefore, Rising, SortedBelow, side_at, Narrowed, Inserted}
+use Rattle.sorting.proofs.Sides.{side_rises, side_total}
 
 -- bisection
 pub narrow_none : {s : ℕ → ℕ} {k m : ℕ} → Narrowed s k m 0 m
@@ -92,15 +92,15 @@ module _ {ks : List (List ℕ)} {faces : List ℕ} (q : Rising ks faces) (x : Li
         }
 
 -- Face f is put in at p, where the faces before are before it and those from there on are not.
-module _ {ks : List (List ℕ)} {old new : List ℕ} {f o p : ℕ} (t : SortedBelow ks f old)
-    (whole : o ≡ length (face_of turned ks f)) (w : Narrowed (side_at ks old (ending o (face_of turned ks f))) 1 f p p)
+module _ {ks : List (List ℕ)} {old new : List ℕ} {f p : ℕ} (t : SortedBelow ks f old)
+    (w : Narrowed (side_at ks old (face_of turned ks f)) 1 f p p)
     (q : Inserted old p f f new) where
   -- the faces before it are before f, and those from there on are not
   lower : (i : ℕ) → i < p → NotBefore (face_of turned ks f) (face_of turned ks (get_or old i 0))
-  lower i l = side_total (face_of turned ks (get_or old i 0)) (face_of turned ks f) (rw (ending_whole (face_of turned ks f) o whole) at (w.below i l))
+  lower i l = side_total (face_of turned ks (get_or old i 0)) (face_of turned ks f) (w.below i l)
 
   upper : (i : ℕ) → p ≤ i → i < f → NotBefore (face_of turned ks (get_or old i 0)) (face_of turned ks f)
-  upper i l h = rw (ending_whole (face_of turned ks f) o whole) at (w.above i l h)
+  upper i l h = w.above i l h
 
   -- from where the face at a place came
   abbrev Came : ℕ → Type 0

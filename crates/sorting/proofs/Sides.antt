@@ -9,8 +9,11 @@ use native.Mathlib.Numerals.{add-one}
 use native.Mathlib.Omega.{arith}
 use lib.Dec.{ltb}
 use lib.ListN.{length, take, drop, get_or, length-append, length-drop, take-append-drop, drop_of_length-le}
-use lib.Seq.{drop-cons, drop_at, get_or-drop}
+use lib.Seq.{drop-cons, drop_at}
 use borrow.Author.Tests.{ltb-true, ltb-false, lt-ltb, le-ltb}
+use Rattle.std.proofs.Common.{Ordering, Less, Greater, nat_cmp, ◌≢◌}
+use Rattle.std.specs.Ordering.{ordering_index}
+use Rattle.std.specs.Cmp.{nat_cmp_is}
 use Rattle.words.specs.Overlap.{Shares}
 use Rattle.sorting.specs.Sorted.{side_of, NotBefore, ending}
 
@@ -103,9 +106,6 @@ begins_side (y ∷ x) more = side_same {y = y} (x ++ more) x refl ∙ begins_sid
 ending_size : (a : List ℕ) (o : ℕ) → o ≤ length a → length (ending o a) ≡ o
 ending_size a o l = omega (arith, length-drop (length a - o) a)
 
-pub ending_whole : (a : List ℕ) (o : ℕ) → o ≡ length a → ending o a ≡ a
-ending_whole a o e = let z : length a - o ≡ 0 = omega arith in rw z
-
 -- b begins with the last o bands of a exactly where it is on side 1 of them
 pub shares_side : {a b : List ℕ} {o : ℕ} → Shares a b o → (o ≤ length a) × (side_of b (ending o a) ≡ 1)
 shares_side {a} {b} {o} h =
@@ -127,39 +127,45 @@ side_shares a b o l h =
       size = ending_size a o l;
     }
 
--- A word f compared with the last o bands of a, from the left: the first i are alike. n bands of a come before them.
-pub record Siding (f a : List ℕ) (n o i : ℕ) : Type 0 where
-  pub cut : n + o ≡ length a
-  pub passed : i ≤ o
-  pub left : side_of f (ending o a) ≡ side_of (drop i f) (drop i (ending o a))
+-- A word f compared with x, from the left: the first i bands are alike.
+pub record Siding (f x : List ℕ) (i : ℕ) : Type 0 where
+  pub passed : i ≤ length x
+  pub left : side_of f x ≡ side_of (drop i f) (drop i x)
 
-pub siding_none : {f a : List ℕ} {n o : ℕ} → n + o ≡ length a → Siding f a n o 0
-siding_none e = record { cut = e; passed = omega arith; left = refl }
+pub siding_none : {f x : List ℕ} → Siding f x 0
+siding_none = record { passed = omega arith; left = refl }
 
-module _ {f a : List ℕ} {n o i : ℕ} (s : Siding f a n o i) where
-  size : length (ending o a) ≡ o
-  size = ending_size a o (omega (arith, s.cut))
+module _ {f x : List ℕ} {i : ℕ} (s : Siding f x i) where
+  next : i < length x → drop i x ≡ get_or x i 0 ∷ drop (suc i) x
+  next l = drop-cons x i 0 l
 
-  band : get_or (ending o a) i 0 ≡ get_or a (n + i) 0
-  band = let e : length a - o ≡ n = omega (arith, s.cut) in get_or-drop (length a - o) a i 0 ∙ rw e
-
-  next : i < o → drop i (ending o a) ≡ get_or a (n + i) 0 ∷ drop (suc i) (ending o a)
-  next l = drop-cons (ending o a) i 0 (omega (arith, size)) ∙ rw band
+  -- all of x is passed
+  pub siding_end : length x ≤ i → side_of f x ≡ 1
+  siding_end l = s.left ∙ rw (drop_of_length-le x l)
 
   -- f has no band i
-  pub siding_short : i < o → length f ≤ i → side_of f (ending o a) ≡ 0
+  pub siding_short : i < length x → length f ≤ i → side_of f x ≡ 0
   siding_short l m = s.left ∙ rw (next l, drop_of_length-le f m)
 
   -- band i decides, or is alike
-  module _ (l : i < o) (m : i < length f) where
-    here : side_of f (ending o a) ≡ side_of (get_or f i 0 ∷ drop (suc i) f) (get_or a (n + i) 0 ∷ drop (suc i) (ending o a))
-    here = s.left ∙ ap (λ (w : List ℕ). side_of w (drop i (ending o a))) (drop-cons f i 0 m)
+  module _ (l : i < length x) (m : i < length f) where
+    here : side_of f x ≡ side_of (get_or f i 0 ∷ drop (suc i) f) (get_or x i 0 ∷ drop (suc i) x)
+    here = s.left ∙ ap (λ (w : List ℕ). side_of w (drop i x)) (drop-cons f i 0 m)
         ∙ ap (λ (w : List ℕ). side_of (get_or f i 0 ∷ drop (suc i) f) w) (next l)
 
-    pub siding_same : get_or f i 0 ≡ get_or a (n + i) 0 → Siding f a n o (i + 1)
+    pub siding_same : get_or f i 0 ≡ get_or x i 0 → Siding f x (i + 1)
     siding_same e =
-        record {
-          cut = s.cut;
-          passed = omega arith;
-          left = here ∙ side_same (drop (suc i) f) (drop (suc i) (ending o a)) e ∙ rw add-one;
-        }
+        record { passed = omega arith; left = here ∙ side_same (drop (suc i) f) (drop (suc i) x) e ∙ rw add-one }
+
+    -- of two bands that differ, the order
+    pub siding_decides : {r : Ordering} → r ≡ nat_cmp (get_or f i 0) (get_or x i 0) → get_or f i 0 ≢ get_or x i 0 → ordering_index r ≡ side_of f x
+    siding_decides {r} e d = go (compare (get_or f i 0) (get_or x i 0))
+      where
+        go : (get_or f i 0 < get_or x i 0) ⊎ ((get_or x i 0 < get_or f i 0) ⊎ (get_or f i 0 ≡ get_or x i 0)) → ordering_index r ≡ side_of f x
+        go (inl l) =
+            ap ordering_index (e ∙ sym (nat_cmp_is (get_or f i 0) (get_or x i 0) Less l))
+            ∙ sym (here ∙ side_less (drop (suc i) f) (drop (suc i) x) l)
+        go (inr (inl l)) =
+            ap ordering_index (e ∙ sym (nat_cmp_is (get_or f i 0) (get_or x i 0) Greater l))
+            ∙ sym (here ∙ side_more (drop (suc i) f) (drop (suc i) x) l)
+        go (inr (inr q)) = absurd (d q)

@@ -10,7 +10,7 @@ use lib.Seq.{length-take-le, get_or-drop, take_all}
 use Rattle.std.proofs.Common.{get_or-take}
 use Rattle.words.specs.Turn.{turned}
 use Rattle.greedy.specs.Reading.{face_of}
-use Rattle.sorting.specs.Sorted.{side_of, side_at, SortedFaces, AllSorted, Begin, Narrowed}
+use Rattle.sorting.specs.Sorted.{side_of, side_at, Rising, SortedFaces, AllSorted, Begin, Narrowed}
 
 pub all_sorted : {ks : List (List ℕ)} {sorted : List ℕ} → SortedFaces ks sorted → AllSorted ks sorted
 all_sorted t =
@@ -24,6 +24,27 @@ all_sorted t =
 -- what is behind place n
 pub tail_is : (n : ℕ) (faces : List ℕ) → take (length faces - n) (drop n faces) ≡ drop n faces
 tail_is n faces = take_all (length faces - n) (drop n faces) (omega (arith, length-drop n faces))
+
+-- the sorted faces rise, and so do those from place p on
+pub rising_all : {ks : List (List ℕ)} (sorted : List ℕ) → AllSorted ks sorted → Rising ks (take (2 * length ks) sorted)
+rising_all {ks} sorted t =
+    let m = 2 * length ks in
+    let size = length-take-le m sorted t.room in
+    record {
+      within = λ i l. rw (get_or-take m sorted i 0 (omega (arith, size))) (t.within i (omega (arith, size)));
+      rising = λ i j l g.
+          rw (get_or-take m sorted i 0 (omega (arith, size)), get_or-take m sorted j 0 (omega (arith, size)))
+          (t.rising i j l (omega (arith, size)));
+    }
+
+pub rising_behind : {ks : List (List ℕ)} (faces : List ℕ) (p : ℕ) → Rising ks faces → Rising ks (drop p faces)
+rising_behind faces p t =
+    record {
+      within = λ i l. rw (get_or-drop p faces i 0) (t.within (p + i) (omega (arith, length-drop p faces)));
+      rising = λ i j l g.
+          rw (get_or-drop p faces i 0, get_or-drop p faces j 0)
+          (t.rising (p + i) (p + j) (omega arith) (omega (arith, length-drop p faces)));
+    }
 
 module _ (ks : List (List ℕ)) (sorted x : List ℕ) (p e : ℕ) (t : AllSorted ks sorted) where
   abbrev all : List ℕ

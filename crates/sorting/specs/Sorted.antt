@@ -64,6 +64,10 @@ pub record Narrowed (s : ℕ → ℕ) (k m low high : ℕ) : Type 0 where
   pub below : (i : ℕ) → i < low → s i < k
   pub above : (i : ℕ) → high ≤ i → i < m → k ≤ s i
 
+-- The first place on side k of the words that begin with x, or on a later one, among faces.
+abbrev pub FirstPlace : List (List ℕ) → List ℕ → List ℕ → ℕ → ℕ → Type 0
+FirstPlace ks faces x k p = Narrowed (side_at ks faces x) k (length faces) p p
+
 -- f is put in at place p of the first m, and the later ones are moved up by one.
 pub record Inserted (old : List ℕ) (p m f : ℕ) (new : List ℕ) : Type 0 where
   pub as_long : length new ≡ length old

@@ -1,8 +1,10 @@
-// Faces put in their places, one after the other.
+// Faces put in their places, one after the other. `sort_unstable_by` asks for a comparison that may be called with any two
+// numbers, and only faces can be compared. Pairs of a face and its form would be compared with no codes at hand, and would
+// take four times the fixed memory.
 ghost use Rattle.std.specs.Prelude.{◌+◌, ◌*◌, ◌≤◌, ◌<◌, length};
 ghost use Rattle.sorting.specs.Sorted.{SortedBelow, Inserted};
 
-use crate::ranges::first_place;
+use crate::ranges::Risen;
 use parts::Parts;
 use std::cmp::Ordering;
 
@@ -20,7 +22,10 @@ pub(crate) fn sort_in(parts: &Parts<'_>, f: usize, sorted: &mut [usize])
     requires { (f < 2 * length parts.now) × (f < length sorted.old) × SortedBelow parts.now f sorted.old }
     ensures { SortedBelow parts.now (f + 1) sorted.new }
 {
-    let face = parts.face(f);
-    let p = first_place(parts, &sorted[..f], face, face.len(), Ordering::Equal);
+    let below = Risen {
+        parts,
+        faces: &sorted[..f],
+    };
+    let p = below.first_place(parts.face(f), Ordering::Equal);
     insert(sorted, p, f, f);
 }

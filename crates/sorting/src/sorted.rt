@@ -1,10 +1,11 @@
 // The faces of codes, sorted.
-ghost use Rattle.std.specs.Prelude.{◌≡◌, ◌≤◌, length};
+ghost use Rattle.std.specs.Prelude.{◌≡◌};
 ghost use Rattle.matching.specs.Forms.{bands_of};
-ghost use Rattle.sorting.specs.Sorted.{ending, Begin};
+ghost use Rattle.sorting.specs.Sorted.{Begin};
 
 use crate::insertion::sort_in;
-use crate::ranges::{first_place, range_end};
+use crate::ranges::Risen;
+use lists::MOST_FACES;
 use matching::Form;
 use parts::Parts;
 use std::cmp::Ordering;
@@ -14,7 +15,8 @@ use std::marker::Model;
 #[derive(Drop)]
 pub struct Sorted<'a> {
     parts: &'a Parts<'a>,
-    faces: [usize; 256],
+    // a row of fixed memory, as long as any list of faces
+    faces: [usize; MOST_FACES],
 }
 
 impl<'a> Model for Sorted<'a> {
@@ -33,7 +35,7 @@ impl<'a> Sorted<'a> {
     pub fn of(parts: &'a Parts<'a>) -> Self
         ensures { result ≡ parts.now }
     {
-        let mut faces = [0; 256];
+        let mut faces = [0; MOST_FACES];
         for f in 0..2 * parts.len() {
             sort_in(parts, f, &mut faces);
         }
@@ -47,14 +49,15 @@ impl<'a> Sorted<'a> {
         self.parts
     }
 
-    // The faces that begin with the last o bands of d.
-    pub fn beginning_with(&self, d: Form<'_>, o: usize) -> &[usize]
-        requires { o ≤ length d.word.now }
-        ensures { Begin self.now (ending o (bands_of d.entry)) result.now }
+    // The faces that begin with a word.
+    pub fn beginning_with(&self, word: Form<'_>) -> &[usize]
+        ensures { Begin self.now (bands_of word.entry) result.now }
     {
         let parts = self.parts;
-        let all = &self.faces[..2 * parts.len()];
-        let from = &all[first_place(parts, all, d, o, Ordering::Equal)..];
-        &from[..range_end(parts, from, d, o)]
+        let faces = &self.faces[..2 * parts.len()];
+        let all = Risen { parts, faces };
+        let faces = &faces[all.first_place(word, Ordering::Equal)..];
+        let from = Risen { parts, faces };
+        &faces[..from.range_end(word)]
     }
 }

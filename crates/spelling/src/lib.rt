@@ -3,4 +3,4 @@
 
 mod writing;
 
-pub use writing::Order;
+pub use writing::{Order, Sums};

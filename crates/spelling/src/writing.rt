@@ -3,15 +3,15 @@ ghost use Rattle.std.specs.Prelude.{◌≡◌, ◌<◌, ◌≤◌, length};
 ghost use Rattle.words.specs.Turn.{turned};
 ghost use Rattle.lists.specs.Runs.{over};
 ghost use Rattle.greedy.specs.Reading.{skip_at_lem, read_piece};
-ghost use Rattle.spelling.specs.Ribbons.{InOrder, Measures, Skips};
+ghost use Rattle.spelling.specs.Ribbons.{InOrder, Measured, Skips};
 
 use parts::Parts;
 
-// A ribbon's length and what it saves.
+// A ribbon's length and what it saves. N is the type of both.
 #[derive(Clone, Copy)]
-pub struct Sums {
-    pub bands: usize,
-    pub saved: usize,
+pub struct Sums<N> {
+    pub bands: N,
+    pub saved: N,
 }
 
 // An order of faces of some codes.
@@ -36,10 +36,11 @@ impl Order<'_> {
     }
 
     // The sums along the order: what each face adds, and what it shares, which goes into a row of its own.
-    pub fn measure(&self, skips: &mut [usize]) -> Sums
+    pub fn measure(&self, skips: &mut [usize]) -> Sums<usize>
         requires { length self.now.faces.now ≤ length skips.old }
-        ensures { Measures self.now.parts.now self.now.faces.now result.bands result.saved × Skips self.now.parts.now self.now.faces.now skips.new }
+        ensures { Measured self.now.parts.now self.now.faces.now skips.old skips.new result.bands result.saved }
     {
+        // by number, which `skip_at` asks for: the walk is along the faces, and the row beside them is filled by the same number
         let mut bands = 0;
         let mut saved = 0;
         for (i, f) in self.faces.iter().enumerate() {
@@ -53,12 +54,13 @@ impl Order<'_> {
 
     // The ribbon at the beginning of a row that has room for it.
     pub fn write_bands(&self, skips: &[usize], ribbon: &mut [u8])
-        requires { Skips self.now.parts.now self.now.faces.now skips.now × (length (read_piece turned self.now.parts.now self.now.faces.now) ≤ length ribbon.old) }
+        requires skips { Skips self.now.parts.now self.now.faces.now skips.now }
+        requires room { length (read_piece turned self.now.parts.now self.now.faces.now) ≤ length ribbon.old }
         ensures { ribbon.new ≡ over (read_piece turned self.now.parts.now self.now.faces.now) ribbon.old }
     {
         let mut at = 0;
-        for (i, f) in self.faces.iter().enumerate() {
-            at = matching::put_way(self.parts.face(*f), skips[i], ribbon, at);
+        for (f, skip) in self.faces.iter().zip(skips) {
+            at = matching::put_way(self.parts.face(*f), *skip, ribbon, at);
         }
     }
 }

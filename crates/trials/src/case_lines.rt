@@ -1,4 +1,4 @@
-// The cases that stand written out in the file of cases, a line each.
+// The cases that stand written out in the file of cases, a line each. A field that is missing or no number ends the run.
 use crate::file_case::run_file;
 use crate::list_case::ListCase;
 use crate::pair_case::run_pair;
@@ -8,20 +8,20 @@ use std::fmt;
 use telling::Tally;
 
 // The case of a line `file FILE ROOMS`.
-pub fn file_line(t: &mut Tally<impl Print>, k: u64, line: Line) -> fmt::Result {
-    let file = line.bytes::<MOST_BYTES>(1);
-    let rooms = line.numbers::<MOST_NUMBERS>(2);
-    run_file(t, k, file.as_slice(), FileRooms::from(rooms.as_slice()))
+pub fn file_line(t: &mut Tally<impl Print>, line: Line) -> fmt::Result {
+    let file = line.bytes::<MOST_BYTES>(1).ok_or(fmt::Error)?;
+    let rooms = line.numbers::<MOST_NUMBERS>(2).ok_or(fmt::Error)?;
+    run_file(t, file.as_slice(), FileRooms::from(rooms.as_slice()))
 }
 
 // The case of a line `list BANDS LENGTHS NAMES SIZES RIBBON ROOMS`.
-pub fn list_line(t: &mut Tally<impl Print>, k: u64, line: Line) -> fmt::Result {
-    let bands = line.bytes::<MOST_BYTES>(1);
-    let lengths = line.numbers::<MOST_NUMBERS>(2);
-    let names = line.bytes::<MOST_BYTES>(3);
-    let sizes = line.numbers::<MOST_NUMBERS>(4);
-    let ribbon = line.bytes::<MOST_BYTES>(5);
-    let rooms = line.numbers::<MOST_NUMBERS>(6);
+pub fn list_line(t: &mut Tally<impl Print>, line: Line) -> fmt::Result {
+    let bands = line.bytes::<MOST_BYTES>(1).ok_or(fmt::Error)?;
+    let lengths = line.numbers::<MOST_NUMBERS>(2).ok_or(fmt::Error)?;
+    let names = line.bytes::<MOST_BYTES>(3).ok_or(fmt::Error)?;
+    let sizes = line.numbers::<MOST_NUMBERS>(4).ok_or(fmt::Error)?;
+    let ribbon = line.bytes::<MOST_BYTES>(5).ok_or(fmt::Error)?;
+    let rooms = line.numbers::<MOST_NUMBERS>(6).ok_or(fmt::Error)?;
     let case = ListCase {
         bands: bands.as_slice(),
         lengths: lengths.as_slice(),
@@ -30,12 +30,12 @@ pub fn list_line(t: &mut Tally<impl Print>, k: u64, line: Line) -> fmt::Result {
         ribbon: ribbon.as_slice(),
         rooms: ListRooms::from(rooms.as_slice()),
     };
-    case.run(t, k)
+    case.run(t)
 }
 
 // The case of a line `pair LIST RIBBON`.
-pub fn pair_line(t: &mut Tally<impl Print>, k: u64, line: Line) -> fmt::Result {
-    let list = line.bytes::<MOST_BYTES>(1);
-    let ribbon = line.bytes::<MOST_BYTES>(2);
-    run_pair(t, k, list.as_slice(), ribbon.as_slice())
+pub fn pair_line(t: &mut Tally<impl Print>, line: Line) -> fmt::Result {
+    let list = line.bytes::<MOST_BYTES>(1).ok_or(fmt::Error)?;
+    let ribbon = line.bytes::<MOST_BYTES>(2).ok_or(fmt::Error)?;
+    run_pair(t, list.as_slice(), ribbon.as_slice())
 }

@@ -1,13 +1,12 @@
 // A case of an order list: reading it, and what the ribbon program and the sheet program write.
 use cases::FileRooms;
 use outcomes::{MOST_BYTES, MOST_NUMBERS, lend, lent_row, say_answer, say_items, tell};
-use ribbons::Orders;
 use std::fmt;
-use std::fmt::Write;
 use telling::Tally;
 
 // The file read into four lent buffers.
 fn tell_read(t: &mut Tally<impl Print>, file: &[u8], rooms: FileRooms) -> fmt::Result {
+    // no heap: rows of a fixed size, as callers lend them
     let mut all_bands = [0u8; MOST_BYTES];
     let mut all_lengths = [0u16; MOST_NUMBERS];
     let mut all_names = [0u8; MOST_BYTES];
@@ -18,11 +17,8 @@ fn tell_read(t: &mut Tally<impl Print>, file: &[u8], rooms: FileRooms) -> fmt::R
     let sizes = lend(&mut all_sizes, rooms.sizes);
     let read = ribbons::read_orders(file, bands, lengths, names, sizes);
     say_answer(t, "read", read)?;
-    let orders = read.unwrap_or(Orders {
-        codes: 0,
-        bands: 0,
-        names: 0,
-    });
+    // no `due`: a read fills four buffers
+    let orders = read.unwrap_or_default();
     tell(t, "bands", bands, orders.bands as usize)?;
     tell(t, "lengths", lengths, orders.codes as usize)?;
     tell(t, "names", names, orders.names as usize)?;
@@ -43,9 +39,9 @@ fn tell_sheet_output(t: &mut Tally<impl Print>, file: &[u8]) -> fmt::Result {
     tell(t, "sheet_output", &out, n)
 }
 
-// Runs case k and tells it.
-pub fn run_file(t: &mut Tally<impl Print>, k: u64, file: &[u8], rooms: FileRooms) -> fmt::Result {
-    writeln!(t, "case,{k},file")?;
+// Runs the next case and tells it.
+pub fn run_file(t: &mut Tally<impl Print>, file: &[u8], rooms: FileRooms) -> fmt::Result {
+    t.begin_case("file")?;
     say_items(t, "file", file)?;
     tell_read(t, file, rooms)?;
     tell_ribbon_output(t, file)?;

@@ -6,24 +6,22 @@ use cases::{Draws, Family, Line};
 use std::fmt;
 use telling::{Checksum, Tally};
 
-// A run through the file: which texts are printed; the group's title, if one has begun, its cases and what was said of them; all
-// cases, and the checksum over the groups'.
+// A run through the file: which texts are printed; the group's title, if one has begun, and what was said of its cases; all cases,
+// and the checksum over the groups'. The tally stands beside the Option: each line of a case needs one, before a first title too.
 #[derive(Drop)]
 struct Run<'a, R: Print> {
-    shown: Shown,
+    shown: Option<Shown>,
     title: Option<&'a [u8]>,
-    cases: u64,
     tally: Tally<'a, R>,
     all: u64,
     sums: Checksum,
 }
 
 impl<'a, R: Print + Drop> Run<'a, R> {
-    fn new(rt: &'a R, shown: Shown) -> Self {
+    fn new(rt: &'a R, shown: Option<Shown>) -> Self {
         Run {
             shown,
             title: None,
-            cases: 0,
             tally: Tally::new(rt, false),
             all: 0,
             sums: Checksum::default(),
@@ -39,7 +37,7 @@ impl<'a, R: Print + Drop> Run<'a, R> {
     // The group ends, if there is one.
     fn end_group(&mut self) {
         if let Some(title) = self.title {
-            self.show(title, self.cases, self.tally.sum);
+            self.show(title, self.tally.cases, self.tally.sum);
             self.sums.feed_sum(self.tally.sum);
         }
     }
@@ -47,29 +45,29 @@ impl<'a, R: Print + Drop> Run<'a, R> {
     // A group begins with a line `= TITLE`; that is printed where texts are.
     fn begin_group(&mut self, line: &'a [u8]) {
         self.end_group();
-        let loud = self.shown != Shown::None;
+        let loud = self.shown.is_some();
         if loud {
             let _ = self.tally.rt.write_all(line);
             let _ = self.tally.rt.write_all(b"\n");
         }
         self.title = Some(line.get(2..).unwrap_or(&[]));
-        self.cases = 0;
         self.tally = Tally::new(self.tally.rt, loud);
     }
 
     // A case is over.
     fn count(&mut self) {
-        self.cases = self.cases.saturating_add(1);
+        self.tally.cases = self.tally.cases.saturating_add(1);
         self.all = self.all.saturating_add(1);
-        self.tally.loud = self.shown == Shown::All;
+        self.tally.loud = self.shown == Some(Shown::All);
     }
 
     // The cases of a line `make FAMILY COUNT SEED`.
     fn make_line(&mut self, line: Line) -> fmt::Result {
-        let family = Family::from(line.field(1));
-        let mut draws = Draws::from_seed(line.number(3));
-        for i in 0..line.number(2) {
-            run_made(&mut self.tally, self.cases, family, i, &mut draws)?;
+        let family = Family::try_from(line.field(1).ok_or(fmt::Error)?).map_err(|_| fmt::Error)?;
+        let count = line.number(2).ok_or(fmt::Error)?;
+        let mut draws = Draws::from_seed(line.number(3).ok_or(fmt::Error)?);
+        for i in 0..count {
+            run_made(&mut self.tally, family, i, &mut draws)?;
             self.count();
         }
         Ok(())
@@ -79,9 +77,9 @@ impl<'a, R: Print + Drop> Run<'a, R> {
     fn line(&mut self, text: &'a [u8]) -> fmt::Result {
         let line = Line::new(text);
         match text {
-            [b'f', ..] => file_line(&mut self.tally, self.cases, line)?,
-            [b'l', ..] => list_line(&mut self.tally, self.cases, line)?,
-            [b'p', ..] => pair_line(&mut self.tally, self.cases, line)?,
+            [b'f', ..] => file_line(&mut self.tally, line)?,
+            [b'l', ..] => list_line(&mut self.tally, line)?,
+            [b'p', ..] => pair_line(&mut self.tally, line)?,
             [b'm', ..] => return self.make_line(line),
             [b'=', ..] => {
                 self.begin_group(text);
@@ -95,7 +93,7 @@ impl<'a, R: Print + Drop> Run<'a, R> {
 }
 
 // The whole file.
-pub fn run_lines(rt: &(impl Print + Drop), file: &[u8], shown: Shown) -> fmt::Result {
+pub fn run_lines(rt: &(impl Print + Drop), file: &[u8], shown: Option<Shown>) -> fmt::Result {
     let mut run = Run::new(rt, shown);
     for line in file.split(|b| *b == b'\n') {
         run.line(line)?;

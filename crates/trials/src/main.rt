@@ -18,14 +18,19 @@ use std::rt::Env;
 // the most bytes of a file of cases
 const ROOM: usize = 131072;
 
+// more than the longest word that is asked with
+const ARGUMENT: usize = 4096;
+
 // What the first argument asks for.
-fn asked(rt: &HostRuntime) -> Shown {
-    let mut argument = [0u8; 4096];
-    let n = rt.arg(1, &mut argument).unwrap_or(0);
-    Shown::from(&argument[..n])
+fn asked(rt: &HostRuntime) -> Option<Shown> {
+    // no heap: a row of a fixed size
+    let mut argument = [0u8; ARGUMENT];
+    let n = rt.arg(1, &mut argument).ok()?;
+    Shown::asked(&argument[..n])
 }
 
 fn main(rt: HostRuntime) {
+    // no heap: a row of a fixed size
     let mut file = [0u8; ROOM];
     let n = files::read_whole(&mut rt.stdin(), &mut file);
     // a failed write is passed over: the checksums tell of the calls all the same

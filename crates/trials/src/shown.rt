@@ -1,20 +1,19 @@
-// Which texts of cases are printed.
+// Which texts of cases are printed, if any.
 
 #[derive(Clone, Copy, PartialEq, Eq)]
 pub enum Shown {
     All,
     // The first of each group.
     First,
-    None,
 }
 
-impl From<&[u8]> for Shown {
+impl Shown {
     // By the first letter of an argument.
-    fn from(argument: &[u8]) -> Self {
+    pub fn asked(argument: &[u8]) -> Option<Self> {
         match argument {
-            [b'a', ..] => Shown::All,
-            [b'f', ..] => Shown::First,
-            _ => Shown::None,
+            [b'a', ..] => Some(Shown::All),
+            [b'f', ..] => Some(Shown::First),
+            _ => None,
         }
     }
 }

@@ -24,7 +24,7 @@ use Rattle.lists.specs.Fit.{list_ok_lem, all_bands_lem}
 use Rattle.lists.proofs.Runs.{codes_count}
 use Rattle.lists.proofs.Rules.{codes_checked, is_fit_list}
 use Rattle.greedy.specs.Layout.{ribbon_for}
-use Rattle.layout.specs.declared.Laid.{Laid}
+use Rattle.layout.specs.Laid.{Laid}
 use Rattle.layout.specs.Calls.{LaysRibbon}
 use Rattle.layout.proofs.Calls.{never_refused}
 use Rattle.places.specs.declared.Place as declared

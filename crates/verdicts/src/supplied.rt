@@ -1,42 +1,43 @@
 // A list and a ribbon supplied for it: their refusals, and how much longer the ribbon is than the computed one.
-ghost use Rattle.std.specs.Prelude.{◌≡◌, true, ◌≤◌, length};
+ghost use Rattle.std.specs.Prelude.{◌≡◌, ◌≤◌, length};
 ghost use Rattle.words.specs.Turn.{turned};
-ghost use Rattle.lists.specs.Answers.{number_told};
-ghost use Rattle.lists.specs.Runs.{codes_in};
-ghost use Rattle.lists.specs.Fit.{list_ok_lem};
+ghost use Rattle.lists.specs.Handed.{words_of};
 ghost use Rattle.greedy.specs.Layout.{ribbon_for};
-ghost use Rattle.checking.specs.Answers.{less, supplied_fault_lem};
+ghost use Rattle.checking.specs.Answers.{less};
+ghost use Rattle.verdicts.specs.Supplied.{TakesSupplied};
 
+use fitness::FitList;
 use layout::lay_ribbon;
 use lists::{Fault, MOST_BANDS, MOST_SUPPLIED_BANDS};
 
-// The fault of a list or of a ribbon, 12, 15 or 8.
-pub fn supplied_fault(bands: &[u8], lengths: &[u16], ribbon: &[u8]) -> Result<(), Fault>
-    ensures { number_told result ≡ supplied_fault_lem bands.now lengths.now ribbon.now }
+// The list, where it is fit and the ribbon may be supplied; or the fault of the one or the other, 12, 15 or 8.
+pub fn take_supplied<'a>(
+    bands: &'a [u8],
+    lengths: &'a [u16],
+    ribbon: &[u8],
+) -> Result<FitList<'a>, Fault>
+    ensures { TakesSupplied bands.now lengths.now ribbon.now result }
 {
-    if !fitness::list_ok(bands, lengths) {
-        return Err(Fault::FalseList);
-    }
+    let list = FitList::of(bands, lengths)?;
     if MOST_SUPPLIED_BANDS < ribbon.len() {
         return Err(Fault::LongRibbon);
     }
     if !fitness::all_bands(ribbon) {
         return Err(Fault::UnknownColour);
     }
-    Ok(())
+    Ok(list)
 }
 
 // The length of the computed ribbon of a fit list, which is never refused.
-pub fn computed_length(bands: &[u8], lengths: &[u16]) -> usize
-    requires { list_ok_lem bands.now lengths.now ≡ true }
-    ensures { result ≡ length (ribbon_for turned (codes_in bands.now lengths.now)) }
+pub fn computed_length(list: FitList<'_>) -> usize
+    ensures { result ≡ length (ribbon_for turned (words_of list.entry.codes)) }
 {
     let mut ribbon = [0u8; MOST_BANDS];
-    let laid = lay_ribbon(bands, lengths, &mut ribbon).unwrap();
+    let laid = lay_ribbon(list.codes.bytes, list.codes.sizes, &mut ribbon).unwrap();
     laid.bands as usize
 }
 
-// a minus b, below zero where b is the larger.
+// a minus b, below zero where b is the larger: document 01 names the form, an i32 difference from two lengths, which fit.
 pub fn difference(a: usize, b: usize) -> i32
     requires { (a ≤ 16384) × (b ≤ 16384) }
     ensures { result ≡ less a b }

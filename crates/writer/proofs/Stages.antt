@@ -21,6 +21,8 @@ use Rattle.lists.specs.Outcome.{outcome}
 use Rattle.lists.specs.Runs.{codes_in, over}
 use Rattle.lists.specs.Fit.{list_ok_lem, names_ok_lem}
 use Rattle.lists.proofs.Runs.{codes_count}
+use Rattle.fitness.specs.declared.codes.FitList.{FitList}
+use Rattle.fitness.specs.declared.names.FitNames.{FitNames}
 use Rattle.greedy.specs.Dropping.{code_at}
 use Rattle.greedy.specs.Rules.{AllStand}
 use Rattle.greedy.specs.Layout.{saved_by}
@@ -29,7 +31,7 @@ use Rattle.greedy.proofs.Room.{ribbon_at_most}
 use Rattle.places.specs.Calls.{FindsPlaces}
 use Rattle.places.specs.declared.Place.{Place}
 use Rattle.checking.proofs.Check.{stands_at}
-use Rattle.sheet_rows.specs.Shows.{ShowsCodes}
+use Rattle.sheet_rows.specs.Shows.{AllPlaced, ShowsCodes}
 use Rattle.sheet_rows.specs.Placed.{RowsThere, placed_sheet}
 use Rattle.sheet_rows.specs.declared.pieces.Shown.{Shown}
 use Rattle.sheets.specs.Answers.{SheetAnswer, SheetOutcome, refused, written, SheetsInto, sheet_for, sheet_outcome}
@@ -60,53 +62,67 @@ module _ (run ls name_run name_ls : List ℕ) {size : ℕ} (long : size ≡ leng
       let t = room false (le-ltb (length buffer) size l) in
       record { answer = rw (t, laid_outcome) (ap (λ (n : ℕ). written n saved) long); left = rw (t, laid_outcome) e }
 
--- a fit list with its ribbon, which the search for places takes
-pub ribbon_short : {run ls name_run name_ls ribbon : List ℕ} → Ready run ls name_run name_ls ribbon → length ribbon ≤ 16384
-ribbon_short {run} {ls} h = omega (arith, ap length h.laid, ribbon_at_most run ls h.list_fits)
+-- a fit list with names and its ribbon, which the search for places takes
+module _ {list : FitList} {named : FitNames} {ribbon : List ℕ} (h : Ready list named ribbon) where
+  abbrev run : List ℕ
+  run = list.codes.bytes.now
 
--- the records that were found on it are those of all codes
-module _ {run ls name_run name_ls ribbon : List ℕ} (h : Ready run ls name_run name_ls ribbon) {count : ℕ}
-    {all : List Place} (f : FindsPlaces run ls ribbon count all) where
+  abbrev ls : List ℕ
+  ls = list.codes.sizes.now
+
+  abbrev name_run : List ℕ
+  name_run = named.names.bytes.now
+
+  abbrev name_ls : List ℕ
+  name_ls = named.names.sizes.now
+
   abbrev cs : List (List ℕ)
   cs = codes_in run ls
 
-  all_stand : AllStand turned cs ribbon
-  all_stand = subst (AllStand turned cs) (sym h.laid) (each_laid turned turning cs).all_stand
+  names_fit : names_ok_lem (length ls) name_run name_ls ≡ true
+  names_fit = rw (← h.one_each) named.fit
 
-  none_missing : count < length ls → ⊥
-  none_missing l =
-      let stands = stands_at turned cs ribbon count (omega (arith, codes_count run ls)) all_stand in
-      true≢false (sym (passes (found_exactly turned (code_at cs count) ribbon) stands) ∙ f.stops l)
+  pub ribbon_short : length ribbon ≤ 16384
+  ribbon_short = omega (arith, ap length h.laid, ribbon_at_most run ls list.fit)
 
-  pub each_placed : FindsPlaces run ls ribbon (length ls) all
-  each_placed =
-      let e : count ≡ length ls = omega (arith, f.within, not_lt none_missing) in
-      subst (λ (n : ℕ). FindsPlaces run ls ribbon n all) e f
+  -- the records that were found on it are those of all codes
+  module _ {count : ℕ} {all : List Place} (f : FindsPlaces run ls ribbon count all) where
+    all_stand : AllStand turned cs ribbon
+    all_stand = subst (AllStand turned cs) (sym h.laid) (each_laid turned turning cs).all_stand
 
--- and by what is shown of them the sheet is the list's
-module _ {run ls name_run name_ls ribbon : List ℕ} (h : Ready run ls name_run name_ls ribbon) {all : List Shown}
-    (f : ShowsCodes run ls ribbon all) where
-  pub there : RowsThere name_run name_ls ls all ribbon
-  there = rows_there run ls name_run name_ls h.list_fits f h.names_fit
+    none_missing : count < length ls → ⊥
+    none_missing l =
+        let stands = stands_at turned cs ribbon count (omega (arith, codes_count run ls)) all_stand in
+        true≢false (sym (passes (found_exactly turned (code_at cs count) ribbon) stands) ∙ f.stops l)
 
-  sheet_is : placed_sheet (codes_in name_run name_ls) ls all ribbon ≡ sheet_for run ls name_run name_ls
-  sheet_is = placed_is_sheet run ls name_run name_ls h.list_fits f h.laid
+    pub each_placed : AllPlaced run ls ribbon all
+    each_placed =
+        let e : count ≡ length ls = omega (arith, f.within, not_lt none_missing) in
+        record { short = ribbon_short; placed = subst (λ (n : ℕ). FindsPlaces run ls ribbon n all) e f }
 
-  module _ {size : ℕ} (e : size ≡ length (placed_sheet (codes_in name_run name_ls) ls all ribbon)) where
-    pub size_short : size ≤ 17181
-    size_short = omega (arith, e, ap length sheet_is, sheet_at_most run ls name_run name_ls h.list_fits h.names_fit)
+  -- and by what is shown of them the sheet is the list's
+  module _ {all : List Shown} (f : ShowsCodes run ls ribbon all) where
+    pub there : RowsThere name_run name_ls ls all ribbon
+    there = rows_there run ls name_run name_ls list.fit f names_fit
 
-    module _ (saved : ℕ) (buffer : List ℕ) where
-      pub sheet_short : {r : Result Wrote Refusal} → length buffer < size → answer_of r ≡ refused (whole short_buffer_number)
-          → Gives (laid_outcome run ls name_run name_ls saved buffer) buffer r
-      sheet_short l a = gives_short run ls name_run name_ls (e ∙ ap length sheet_is) saved buffer l a
+    sheet_is : placed_sheet (codes_in name_run name_ls) ls all ribbon ≡ sheet_for run ls name_run name_ls
+    sheet_is = placed_is_sheet run ls name_run name_ls list.fit f h.laid
 
-      pub sheet_written : {after : List ℕ} {r : ℕ} → size ≤ length buffer
-          → PutsSheet (placed_sheet (codes_in name_run name_ls) ls all ribbon) buffer after r
-          → Gives (laid_outcome run ls name_run name_ls saved buffer) after (Ok (record { bytes = size; saved = saved }))
-      sheet_written l p =
-          gives_sheet run ls name_run name_ls (e ∙ ap length sheet_is) saved buffer l
-          (p.left ∙ ap (λ (s : List ℕ). over s buffer) sheet_is)
+    module _ {size : ℕ} (e : size ≡ length (placed_sheet (codes_in name_run name_ls) ls all ribbon)) where
+      pub size_short : size ≤ 17181
+      size_short = omega (arith, e, ap length sheet_is, sheet_at_most run ls name_run name_ls list.fit names_fit)
+
+      module _ (saved : ℕ) (buffer : List ℕ) where
+        pub sheet_short : {r : Result Wrote Refusal} → length buffer < size → answer_of r ≡ refused (whole short_buffer_number)
+            → Gives (laid_outcome run ls name_run name_ls saved buffer) buffer r
+        sheet_short l a = gives_short run ls name_run name_ls (e ∙ ap length sheet_is) saved buffer l a
+
+        pub sheet_written : {after : List ℕ} {r : ℕ} → size ≤ length buffer
+            → PutsSheet (placed_sheet (codes_in name_run name_ls) ls all ribbon) buffer after r
+            → Gives (laid_outcome run ls name_run name_ls saved buffer) after (Ok (record { bytes = size; saved = saved }))
+        sheet_written l p =
+            gives_sheet run ls name_run name_ls (e ∙ ap length sheet_is) saved buffer l
+            (p.left ∙ ap (λ (s : List ℕ). over s buffer) sheet_is)
 
 -- the whole
 module _ (run ls name_run name_ls buffer : List ℕ) where

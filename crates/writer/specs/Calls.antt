@@ -5,8 +5,10 @@ use Rattle.lists.specs.Refusals.{whole, short_buffer_number}
 use Rattle.lists.specs.Answers.{refusal_of}
 use Rattle.lists.specs.declared.numbers.Refusal.{Refusal}
 use Rattle.lists.specs.Outcome.{outcome}
-use Rattle.lists.specs.Runs.{codes_in, over}
-use Rattle.lists.specs.Fit.{list_ok_lem, names_ok_lem}
+use Rattle.lists.specs.Runs.{over}
+use Rattle.lists.specs.Handed.{words_of}
+use Rattle.fitness.specs.declared.codes.FitList.{FitList}
+use Rattle.fitness.specs.declared.names.FitNames.{FitNames}
 use Rattle.greedy.specs.Layout.{ribbon_for}
 use Rattle.sheets.specs.Answers.{SheetAnswer, refused, written, SheetOutcome, SheetsInto, sheet_for, sheet_outcome}
 use Rattle.writer.specs.declared.Wrote.{Wrote}
@@ -22,11 +24,10 @@ pub record WritesSheet (run ls name_run name_ls before after : List ℕ) (r : Re
   pub left : after ≡ (sheet_outcome run ls name_run name_ls before).after
   pub means : SheetsInto run ls name_run name_ls before (outcome (answer_of r) after)
 
--- The stage behind the layout: a fit list with its ribbon, whose sheet is written where it fits.
-pub record Ready (run ls name_run name_ls ribbon : List ℕ) : Type 0 where
-  pub list_fits : list_ok_lem run ls ≡ true
-  pub names_fit : names_ok_lem (length ls) name_run name_ls ≡ true
-  pub laid : ribbon ≡ ribbon_for turned (codes_in run ls)
+-- The stage behind the layout: a fit list with names, one for each code, and its ribbon, whose sheet is written where it fits.
+pub record Ready (list : FitList) (named : FitNames) (ribbon : List ℕ) : Type 0 where
+  pub one_each : length named.names.sizes.now ≡ length list.codes.sizes.now
+  pub laid : ribbon ≡ ribbon_for turned (words_of list.codes)
 
 unfoldable pub laid_outcome : (run ls name_run name_ls : List ℕ) → ℕ → List ℕ → SheetOutcome
 laid_outcome run ls name_run name_ls saved buffer =
@@ -40,3 +41,7 @@ laid_outcome run ls name_run name_ls saved buffer =
 pub record Gives (o : SheetOutcome) (after : List ℕ) (r : Result Wrote Refusal) : Type 0 where
   pub answer : answer_of r ≡ o.answer
   pub left : after ≡ o.after
+
+abbrev pub WritesLaid : FitList → FitNames → ℕ → List ℕ → List ℕ → Result Wrote Refusal → Type 0
+WritesLaid list named saved before after r =
+    Gives (laid_outcome list.codes.bytes.now list.codes.sizes.now named.names.bytes.now named.names.sizes.now saved before) after r

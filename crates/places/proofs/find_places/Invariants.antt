@@ -4,4 +4,4 @@ use Rattle.places.proofs.Finding.{Finding}
 use Rattle.places.proofs.find_places.Given as goal
 
 abbrev pub invariant-loop-i : goal.invariant-loop-i
-invariant-loop-i l = Finding l.bands l.lengths l.ribbon l.records l.i-iterator.count (words_of l.i-iterator.iter)
+invariant-loop-i l = Finding l.list.codes.bytes.now l.list.codes.sizes.now l.ribbon l.records l.i-iterator.count (words_of l.i-iterator.iter)

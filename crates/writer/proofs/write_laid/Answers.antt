@@ -4,11 +4,10 @@ use Rattle.writer.proofs.Stages.{ribbon_short, each_placed, there, size_short, s
 use Rattle.writer.proofs.write_laid.Goals as goal
 
 pub find_places-sought-requires : goal.find_places-sought-requires
-find_places-sought-requires c = (c.requires.list_fits, ribbon_short c.requires)
+find_places-sought-requires c = ribbon_short c.requires
 
 pub show_codes-shown-requires : goal.show_codes-shown-requires
-show_codes-shown-requires c =
-    (c.requires.list_fits, ribbon_short c.requires, each_placed c.requires c.find_places-sought.ensures)
+show_codes-shown-requires c = each_placed c.requires c.find_places-sought.ensures
 
 pub invariant_of-rows : goal.invariant_of-rows
 invariant_of-rows c = record { there = there c.requires c.show_codes-shown.ensures }
@@ -17,9 +16,6 @@ pub returns-then-out-size : goal.returns-then-out-size
 returns-then-out-size c =
     sheet_short c.requires c.show_codes-shown.ensures c.sheet_size-size.ensures c.args.saved c.args.out.now
     c.if-out-size.true (rw c.into.ensures)
-
-pub put_sheet-requires : goal.put_sheet-requires
-put_sheet-requires c = omega (arith, c.sheet_size-size.ensures, c.if-out-size.false)
 
 pub overflow_cast-result : goal.overflow_cast-result
 overflow_cast-result c = omega (arith, size_short c.requires c.show_codes-shown.ensures c.sheet_size-size.ensures)

@@ -1,5 +1,5 @@
 -- What the search knows at each turn is carried on by the lemmas of Searching, as the code goes.
-use mathlib.Core.Path.{◌≡◌, refl}
+use mathlib.Core.Path.{◌≡◌, refl, sym, ap, ◌∙◌}
 use mathlib.Core.Bool.{true}
 use Prim.Native.Nat.{ℕ}
 use mathlib.Core.List.{List}
@@ -7,6 +7,9 @@ use lib.ListN.{length}
 use native.Mathlib.Omega.{arith}
 use Rattle.words.specs.Turn.{turned}
 use Rattle.words.proofs.Ways.{way_size}
+use Rattle.matching.proofs.Sizes.{form_size}
+use Rattle.matching.specs.declared.forms.Form.{Form}
+use Rattle.windows.proofs.Adding.{turned_total}
 use Rattle.finding.proofs.Searching.{seeking_none, seeking_in, seeking_skip, seeking_jump, seeking_given}
 use Rattle.finding.proofs.Searching.{seeking_turned, seeking_nowhere, seeking_more, seeking_next, seeking_fall}
 use Rattle.finding.proofs.starts.first_start.Goals as goal
@@ -23,8 +26,8 @@ starts-init c =
 pub loop-j-init : goal.loop-j-init
 loop-j-init c =
     let k = as_long c.args.c.now in
-    let sums = c.sums_of-sums.ensures in
-    let q = seeking_skip k c.starts.invariant.1 c.max.ensures sums.0 sums.1 c.next_fit-w.ensures.1 in
+    let sum = c.sum_of-sum.ensures in
+    let q = seeking_skip k c.starts.invariant.1 c.max.ensures sum (sum ∙ sym (turned_total c.args.c.now)) c.next_fit-w.ensures.1 in
     let l = c.next_fit-w.ensures.0.within in
     elim c.if-i-j.branch [
       | then-i-j w ↦ (refl, omega (arith, l), rw (w.i-is, w.j-is, w.m-is) (seeking_jump k q (omega (arith, l)) w.if-i-j.true))
@@ -33,7 +36,9 @@ loop-j-init c =
 
 pub go_on-m-requires : goal.go_on-m-requires
 go_on-m-requires c =
-    rw (c.of-turned.ensures, c.turned.ensures, as_long) (seeking_in (as_long c.args.c.now) c.loop-j.invariant.2).0
+    let size = ap (λ (f : Form). length f.word.now) c.turned.ensures in
+    let m = (seeking_in (as_long c.args.c.now) c.loop-j.invariant.2).0 in
+    omega (arith, ap length c.of-turned.ensures, form_size c.turned.result, size, m)
 
 pub starts-preserved-then-j-eq0 : goal.starts-preserved-then-j-eq0
 starts-preserved-then-j-eq0 c =
@@ -55,7 +60,9 @@ starts-preserved c =
 
 pub go_on-m-requires-in-loop-j : goal.go_on-m-requires-in-loop-j
 go_on-m-requires-in-loop-j c =
-    rw (c.of-turned.ensures, c.turned.ensures, as_long) (seeking_in (as_long c.args.c.now) c.loop-j.invariant.2).0
+    let size = ap (λ (f : Form). length f.word.now) c.turned.ensures in
+    let m = (seeking_in (as_long c.args.c.now) c.loop-j.invariant.2).0 in
+    omega (arith, ap length c.of-turned.ensures, form_size c.turned.result, size, m)
 
 pub loop-j-preserved : goal.loop-j-preserved
 loop-j-preserved c =

@@ -1,6 +1,5 @@
 -- `held_at_end`: each band of a leads from the match before it to the next.
-use Rattle.std.proofs.Common.{◌≡◌, length, refl, arith, rules}
-use Rattle.matching.specs.Forms.{bands_of}
+use Rattle.std.proofs.Common.{refl, arith, rules}
 use Rattle.matching.proofs.Sizes.{form_size}
 use Rattle.matching.proofs.Passing.{passed_none, passed_held, passed_row, passed_next, passed_more, follows_from}
 use Rattle.matching.proofs.falling.held_at_end.Goals as goal
@@ -18,7 +17,7 @@ fill_to-filled-requires c =
     let x = c.args in
     let h = c.loop-i.invariant.1 in
     let v = c.band in
-    let f = follows_from x.a.turned x.a.word.now _ c.loop-i.i v.result (omega arith) v.ensures in
+    let f = follows_from x.a.turned x.a.word.now c.loop-i.i v.result (omega arith) v.ensures in
     let n = passed_next h f c.go_on-m.ensures in
     (omega (arith, form_size x.b, n.1), omega (arith, n.0), n.2)
 
@@ -27,12 +26,5 @@ loop-i-preserved c =
     let x = c.args in
     let h = c.loop-i.invariant.1 in
     let v = c.band in
-    let f = follows_from x.a.turned x.a.word.now _ c.loop-i.i v.result (omega arith) v.ensures in
+    let f = follows_from x.a.turned x.a.word.now c.loop-i.i v.result (omega arith) v.ensures in
     (search rules, passed_more h f c.go_on-m.ensures c.fill_to-filled.ensures)
-
-pub returns : goal.returns
-returns c =
-    let a = c.args.a in
-    let e : c.loop-i.i ≡ c.args.k = omega arith in
-    let s : c.len.result ≡ length (bands_of a) = omega (arith, form_size a) in
-    rw (← s) (rw e at c.loop-i.invariant.1.held)

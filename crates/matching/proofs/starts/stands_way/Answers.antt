@@ -1,15 +1,16 @@
--- `stands_way` tries the starts one by one.
-use Rattle.std.proofs.Common.{sym, ◌∙◌, arith}
-use Rattle.matching.proofs.Sizes.{form_size}
-use Rattle.matching.proofs.Seeking.{sought_miss, sought_all}
+-- `stands_way`: `any` goes over the starts and the end.
+use Rattle.std.proofs.Common.{◌+◌, length, refl, rules, tests, ◌∙◌, arith}
+use Rattle.std.proofs.lemmas.Iterator.{YieldsList-from_range}
+use Rattle.std.proofs.lemmas.Iterator.Search.{any_from_yields_List}
+use Rattle.matching.specs.Forms.{bands_of}
+use Rattle.matching.proofs.Seeking.{begins_at, any_stands}
 use Rattle.matching.proofs.starts.stands_way.Goals as goal
-
-pub loop-i-preserved : goal.loop-i-preserved
-loop-i-preserved c =
-    let e = sym c.begins_way.ensures ∙ c.if-begins_way.false in
-    sought_miss _ _ _ c.loop-i.invariant c.loop-i-test.true e
 
 pub returns : goal.returns
 returns c =
-    let x = c.args in
-    sought_all _ _ _ c.loop-i.invariant _ (form_size x.form ∙ sym c.len.ensures) (omega arith)
+    let f = bands_of c.args.form in
+    let s = c.args.s.now in
+    any_from_yields_List (begins_at f s) c.any.new.self _ c.any.result c.any.ensures.ran
+    (YieldsList-from_range 0 (length s + 1) (length s + 1) refl (omega arith))
+    (λ x b q k. search (rules, tests))
+    ∙ any_stands f s

@@ -1,21 +1,7 @@
--- `check_printing::check_line`: each answer's line is written.
-use Rattle.std.proofs.Common.{refl, rules, w32}
-use mir.Val.{SFits}
-use Rattle.ribbons.proofs.CheckText.{check_written, held_checked}
+-- `check_printing::check_line`: the line of the check's answer is written.
+use Rattle.ribbons.proofs.CheckText.{check_written}
 use Rattle.ribbons.proofs.check_printing.check_line.Goals as goal
 
-pub returns-in-Ok-Missing : goal.returns-in-Ok-Missing
-returns-in-Ok-Missing c =
-    let p = rw c.in-Ok-Missing.field-0-is at c.in-Ok-Missing.ensures in
-    rw (← c.codes-codes.ensures.words) (check_written _ _ _ c.codes-codes.ensures.fit p refl c.missing_line.ensures)
-
-pub returns-in-Ok-Held : goal.returns-in-Ok-Held
-returns-in-Ok-Held c =
-    let f : SFits w32 c.in-Ok-Held.d = search rules in
-    let p = rw c.in-Ok-Held.field-0-is at c.in-Ok-Held.ensures in
-    rw (← c.codes-codes.ensures.words) (held_checked _ _ _ c.codes-codes.ensures.fit c.in-Ok-Held.d f p refl c.held_line.ensures)
-
-pub returns-in-Err : goal.returns-in-Err
-returns-in-Err c =
-    rw (← c.codes-codes.ensures.words)
-    (check_written _ _ _ c.codes-codes.ensures.fit c.in-Err.ensures refl c.refused_line.ensures)
+pub returns : goal.returns
+returns c =
+    rw (← c.codes-fit.ensures.words) (check_written _ _ _ c.codes-fit.result.fit c.check_only.ensures c.write_line.ensures)

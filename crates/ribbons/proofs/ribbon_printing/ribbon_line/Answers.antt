@@ -6,13 +6,13 @@ use Rattle.ribbons.proofs.RibbonText.{line_fits, line_written}
 use Rattle.ribbons.proofs.ribbon_printing.ribbon_line.Goals as goal
 
 pub unwrap-laid-requires : goal.unwrap-laid-requires
-unwrap-laid-requires c = is_laid _ _ _ c.codes-codes.ensures.fit (search rules) _ c.lay_ribbon.ensures
+unwrap-laid-requires c = is_laid _ _ _ c.codes-fit.result.fit (search rules) _ c.lay_ribbon.ensures
 
 pub put_word-requires : goal.put_word-requires
 put_word-requires c =
-    line_fits _ _ _ c.codes-codes.ensures.fit c.requires (told c.lay_ribbon.ensures c.unwrap-laid.ensures)
+    line_fits _ _ _ c.codes-fit.result.fit c.requires (told c.lay_ribbon.ensures c.unwrap-laid.ensures)
 
 pub returns : goal.returns
 returns c =
-    rw (← c.codes-codes.ensures.words)
-    (line_written _ _ _ c.codes-codes.ensures.fit c.requires (told c.lay_ribbon.ensures c.unwrap-laid.ensures) c.put_word.ensures)
+    rw (← c.codes-fit.ensures.words)
+    (line_written _ _ _ c.codes-fit.result.fit c.requires (told c.lay_ribbon.ensures c.unwrap-laid.ensures) c.put_word.ensures)

@@ -2,7 +2,7 @@
 use Rattle.std.proofs.Common.{List, ℕ}
 use Rattle.grammar.specs.Files.{Orders}
 use Rattle.sheets.specs.Sheet.{sheet_text_lem}
-use Rattle.ribbons.proofs.Outputs.{writes_list, writes_refused}
+use Rattle.ribbons.proofs.Outputs.{writes_list}
 use Rattle.ribbons.proofs.sheet_printing.sheet_output.Goals as goal
 
 abbrev written : Orders → List ℕ
@@ -10,6 +10,3 @@ written x = sheet_text_lem x.names x.codes
 
 pub returns-in-Ok : goal.returns-in-Ok
 returns-in-Ok c = writes_list written c.args.file.now c.in-Ok.ensures c.sheet_text.ensures
-
-pub returns-in-Err : goal.returns-in-Err
-returns-in-Err c = writes_refused written c.args.file.now _ c.in-Err.ensures c.refused_line.ensures

@@ -4,11 +4,11 @@ use Rattle.ribbons.proofs.sheet_printing.sheet_text.Goals as goal
 
 pub unwrap-wrote-requires : goal.unwrap-wrote-requires
 unwrap-wrote-requires c =
-    sheet_accepted _ _ _ _ _ c.write_sheet.ensures c.codes-codes.ensures.fit
-    (rw c.codes-codes.ensures.count c.names-names.ensures.fit) c.requires
+    sheet_accepted _ _ _ _ _ c.write_sheet.ensures c.codes-fit.result.fit
+    (rw (c.codes-fit.ensures.count, ← c.names-names.ensures.count) c.names-names.result.fit) c.requires
 
 pub returns : goal.returns
 returns c =
-    rw (← c.codes-codes.ensures.words, ← c.names-names.ensures.words)
-    (sheet_written _ _ _ _ _ c.write_sheet.ensures c.codes-codes.ensures.fit
-    (rw c.codes-codes.ensures.count c.names-names.ensures.fit) c.requires c.unwrap-wrote.ensures)
+    rw (← c.codes-fit.ensures.words, ← c.names-names.ensures.words)
+    (sheet_written _ _ _ _ _ c.write_sheet.ensures c.codes-fit.result.fit
+    (rw (c.codes-fit.ensures.count, ← c.names-names.ensures.count) c.names-names.result.fit) c.requires c.unwrap-wrote.ensures)

@@ -1,37 +1,34 @@
--- `showing::show_codes` meets its contract: the code of the turn lies in the run where those before it end, and is shown.
-use Rattle.std.proofs.Common.{List, ℕ, sym, ap, ◌∙◌, arith}
-use Rattle.words.specs.Turn.{turned}
-use Rattle.words.specs.Place.{place_of}
-use Rattle.words.proofs.Deciding.{holds}
-use Rattle.lists.proofs.Rules.{is_fit_list}
-use Rattle.places.proofs.Finding.{next_in, next_is, place_is}
-use Rattle.sheet_rows.proofs.Shows.{showing_next}
+-- `showing::show_codes` meets its contract: the code of the turn is shown behind those before it.
+use Rattle.std.proofs.Common.{refl}
+use Rattle.sheet_rows.proofs.Shows.{showing_none, next_few, next_placed, showing_next, showing_all}
 use Rattle.sheet_rows.proofs.showing.show_codes.Goals as goal
+
+pub loop-i-init : goal.loop-i-init
+loop-i-init c =
+    let codes = c.args.list.codes in
+    let e = c.enumerate-i-items.ensures in
+    rw (c.into_iter-i-iterator.ensures.into_iter_gives, e.count, e.source)
+    (showing_none codes.bytes.now codes.sizes.now c.args.ribbon.now _ refl)
+
+pub bounds-records-i : goal.bounds-records-i
+bounds-records-i c =
+    let s = c.in-Some.ensures.steps in
+    rw s.1 (next_few c.loop-i.invariant s.0 c.args.list.fit)
 
 pub show_code-requires : goal.show_code-requires
 show_code-requires c =
-    let a = c.args in
-    let l = c.loop-i in
-    let fit = holds (is_fit_list a.bands.now a.lengths.now) c.requires.0 in
-    let next = next_in fit l.invariant.there c.loop-i-test.true in
-    let code = next_is fit l.invariant.there c.loop-i-test.true in
-    rw c.from-size.ensures record {
-      in_run = next.0;
-      small = next.1;
-      some = next.3;
-      few = next.4;
-      short = c.requires.1;
-      place = place_is c.requires.2 l.i c.loop-i-test.true
-          ∙ ap (λ (w : List ℕ). place_of turned 0 w a.ribbon.now) (sym code);
-    }
+    let s = c.in-Some.ensures.steps in
+    rw s.1 (next_placed c.loop-i.invariant s.0 c.args.list.fit c.requires)
 
-pub overflow_add-at : goal.overflow_add-at
-overflow_add-at c =
-    let fit = holds (is_fit_list c.args.bands.now c.args.lengths.now) c.requires.0 in
-    record { fits = omega (arith, c.from-size.ensures, (next_in fit c.loop-i.invariant.there c.loop-i-test.true).1) }
+pub bounds-shown-i : goal.bounds-shown-i
+bounds-shown-i c =
+    let s = c.in-Some.ensures.steps in
+    rw s.1 (next_few c.loop-i.invariant s.0 c.args.list.fit)
 
 pub loop-i-preserved : goal.loop-i-preserved
 loop-i-preserved c =
-    let fit = holds (is_fit_list c.args.bands.now c.args.lengths.now) c.requires.0 in
-    let shows = rw c.from-size.ensures at c.show_code.ensures in
-    rw c.from-size.ensures (showing_next c.loop-i.invariant fit c.loop-i-test.true shows)
+    let s = c.in-Some.ensures.steps in
+    rw (s.1, s.2) (showing_next c.loop-i.invariant s.0 c.args.list.fit c.show_code.ensures)
+
+pub returns : goal.returns
+returns c = showing_all c.loop-i.invariant c.in-None.ensures.steps.0.0

@@ -4,4 +4,4 @@ use Rattle.sorting.proofs.Sides.{Siding}
 use Rattle.sorting.proofs.compare.side.Given as goal
 
 abbrev pub invariant-loop-i : goal.invariant-loop-i
-invariant-loop-i l = Siding (bands_of l.c) (bands_of l.d) l.start l.o l.i
+invariant-loop-i l = Siding (bands_of l.c) (bands_of l.word) l.i

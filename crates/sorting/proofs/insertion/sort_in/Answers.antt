@@ -1,12 +1,8 @@
 -- `sort_in`: at the place found, all faces before are before f and none from there on is, so the faces stay sorted.
-use mathlib.Core.Path.{sym, ◌∙◌}
-use Rattle.parts.proofs.Faces.{face_size}
 use Rattle.sorting.proofs.Rising.{narrowed_front, sorted_next}
 use Rattle.sorting.proofs.insertion.sort_in.Goals as goal
 
 pub returns : goal.returns
 returns c =
-    let face = c.face-face.ensures.same in
-    let whole = c.len.ensures ∙ sym (face_size c.face-face.result face) in
-    let w = narrowed_front _ _ _ c.requires.2.room (rw face at c.first_place-p.ensures) in
-    sorted_next c.requires.2 whole w c.insert.ensures c.requires.1
+    let w = narrowed_front _ _ _ c.requires.2.room (rw c.face.ensures at c.first_place-p.ensures) in
+    sorted_next c.requires.2 w c.insert.ensures c.requires.1

@@ -3,9 +3,6 @@ use Rattle.std.proofs.Common.{◌≡◌, ◌+◌, true, false, arith}
 use Rattle.windows.proofs.Adding.{adds_small, first_in, adds_next, skipped_more}
 use Rattle.windows.proofs.fitting.next_fit.Goals as goal
 
-pub overflow_add-w : goal.overflow_add-w
-overflow_add-w c = omega (arith, c.loop-w.invariant.0.within)
-
 pub overflow_sub-w : goal.overflow_sub-w
 overflow_sub-w c = omega (arith, first_in c.loop-w.invariant.0 c.requires.0 c.loop-w-test.true)
 

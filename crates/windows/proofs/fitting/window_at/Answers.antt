@@ -10,7 +10,7 @@ use Rattle.windows.proofs.fitting.window_at.Goals as goal
 pub returns : goal.returns
 returns c =
     let s = c.args.s.now in
-    let e = rw c.given.ensures at c.sum_of.ensures ∙ ap total (part_to s c.args.start c.args.n) in (
+    let e = c.sum_of.ensures ∙ ap total (part_to s c.args.start c.args.n) in (
       refl,
       record {
         within = search rules;

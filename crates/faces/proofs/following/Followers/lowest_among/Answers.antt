@@ -1,10 +1,7 @@
 -- `Followers::lowest_among`: one face after another is passed.
 use Rattle.std.proofs.Common.{◌≡◌, length, arith}
-use Rattle.faces.proofs.Picking.{lowest_none, lowest_next}
+use Rattle.faces.proofs.Picking.{lowest_next}
 use Rattle.faces.proofs.following.Followers.lowest_among.Goals as goal
-
-pub loop-b-init : goal.loop-b-init
-loop-b-init c = lowest_none _
 
 pub loop-b-preserved : goal.loop-b-preserved
 loop-b-preserved c = lowest_next _ _ _ _ c.loop-b.invariant c.lower-best.ensures

@@ -1,6 +1,10 @@
--- `Sorted::beginning_with`: the places on side 1 have the faces that begin with d's last o bands, and all of these.
-use Rattle.sorting.proofs.Together.{tail_is, begin}
+-- `Sorted::beginning_with`: the places on side 1 have the faces that begin with the word, and all of these.
+use Rattle.sorting.proofs.Together.{tail_is, rising_all, rising_behind, begin}
 use Rattle.sorting.proofs.sorted.Sorted.beginning_with.Goals as goal
+
+pub invariant_of-from : goal.invariant_of-from
+invariant_of-from c =
+    record { rising = rw (c.len.ensures.count, tail_is) (rising_behind _ _ (rising_all _ c.self.invariant)) }
 
 pub returns : goal.returns
 returns c =

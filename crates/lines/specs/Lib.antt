@@ -1,0 +1,2 @@
+-- What each line says.
+pub mod Lines

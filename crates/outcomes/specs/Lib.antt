@@ -1,0 +1,3 @@
+-- What lent records hold before a call, and how many a call fills.
+pub mod Dues
+pub mod Marks

@@ -1,0 +1,2 @@
+-- The checksum.
+pub mod Sums
