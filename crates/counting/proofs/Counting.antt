@@ -64,8 +64,8 @@ module _ {turn : List ℕ → List ℕ} {c s : List ℕ} (as_long : length (turn
         let b = open_in q.both.turned in
         (a.0, omega (arith, as_long, b.0), a.1, b.1, q.both.given.within)
 
-    counting_skip : {w r y : ℕ} → r ≡ max g t → y ≡ total c → y ≡ total (turn c)
-        → Skipped s (length c) y p (e - r) w → Counting turn c s w e g t n
+    counting_skip : {w r y z : ℕ} → r ≡ max g t → y ≡ total c → z ≡ total (turn c)
+        → Skipped s (length c) y z p (e - r) w → Counting turn c s w e g t n
     counting_skip f u v l =
         record {
           k = q.k;
@@ -170,8 +170,8 @@ module _ {turn : List ℕ → List ℕ} {c s : List ℕ} (as_long : length (turn
           by (no z) r = let o : n ≡ n + m = omega arith in subst (Counting turn c s p (e + 1) u v) o (miss z)
 
   -- where the next band is taken: behind the starts that do not fit, if those are behind all bands passed
-  pub counting_here : {p e g t n w sum r y u v x : ℕ} → Counting turn c s p e g t n → e < length s
-      → r ≡ max g t → y ≡ total c → y ≡ total (turn c)
-      → Windowed s (length c) w sum × Skipped s (length c) y p (e - r) w → Moved w e g t u v x
+  pub counting_here : {p e g t n w sum r y z u v x : ℕ} → Counting turn c s p e g t n → e < length s
+      → r ≡ max g t → y ≡ total c → z ≡ total (turn c)
+      → Windowed s (length c) w sum × Skipped s (length c) y z p (e - r) w → Moved w e g t u v x
       → (e ≤ u) × (u < length s) × Counting turn c s w u v x n
   counting_here q l f a b k m = counting_moved (counting_skip q f a b k.1) (omega (arith, k.0.within)) l m

@@ -5,7 +5,7 @@ ghost use Rattle.words.specs.Count.{count_of};
 ghost use Rattle.counting.specs.Moves.{Moved};
 
 use matching::{Form, Pattern};
-use windows::{next_fit, sum_of, window_at};
+use windows::{next_fit, sums_of, window_at};
 
 // A pass: how many bands it has passed, and how many of each way are held there.
 #[derive(Clone, Copy)]
@@ -53,7 +53,7 @@ pub fn count_places(c: &[u8], s: &[u8]) -> usize
     // No struct of these, shared with finding: there one pattern falls back, here both go on, so no step would be of it.
     let given = Pattern::of(Form::given(c));
     let turned = Pattern::of(Form::turned(c));
-    let sum = sum_of(c);
+    let sums = sums_of(c);
     let mut w = window_at(s, 0, n);
     let mut count = 0;
     let mut pass = Pass {
@@ -63,7 +63,7 @@ pub fn count_places(c: &[u8], s: &[u8]) -> usize
     };
     // An index: the pass leaves out the bands before the next start that fits.
     while pass.end < s.len() {
-        w = next_fit(s, n, sum, w, pass.end - pass.given.max(pass.turned));
+        w = next_fit(s, n, sums, w, pass.end - pass.given.max(pass.turned));
         let at = pass.moved(w.start);
         let x = s[at.end];
         pass = Pass {

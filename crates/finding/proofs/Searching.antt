@@ -43,8 +43,8 @@ module _ {turn : List ℕ → List ℕ} {c s : List ℕ} (as_long : length (turn
         let o = q.both.turned in
         (omega (arith, as_long, (open_in o).0), (open_in o).1, o.within)
 
-    pub seeking_skip : {w r y : ℕ} → r ≡ max j m → y ≡ total c → y ≡ total (turn c)
-        → Skipped s (length c) y p (i + j - r) w → Seeking turn c s k w i j m
+    pub seeking_skip : {w r y z : ℕ} → r ≡ max j m → y ≡ total c → z ≡ total (turn c)
+        → Skipped s (length c) y z p (i + j - r) w → Seeking turn c s k w i j m
     seeking_skip f u v g =
         record { both = both_skip as_long q.both f u v g; given_from = q.given_from; turned_from = q.turned_from }
 

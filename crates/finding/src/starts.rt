@@ -7,7 +7,7 @@ ghost use Rattle.finding.specs.Search.{Sought};
 
 use crate::Way;
 use matching::{Form, Pattern, begins_way};
-use windows::{next_fit, sum_of, window_at};
+use windows::{next_fit, sums_of, window_at};
 
 // The smallest start from one on at which either way of c stands on s, if there is one. At the start i the first j bands are
 // alike, and m bands of c turned end there. Behind a mismatch the start moves on by what the fall-back from j bands leaves, and
@@ -23,13 +23,13 @@ fn first_start(c: &[u8], s: &[u8], from: usize) -> Option<usize>
     let given = Pattern::of(Form::given(c));
     let turned = Pattern::of(Form::turned(c));
     let n = c.len();
-    let sum = sum_of(c);
+    let sums = sums_of(c);
     let mut w = window_at(s, from, n);
     let mut i = from;
     let mut j = 0;
     let mut m = 0;
     'starts: loop {
-        w = next_fit(s, n, sum, w, i + j - j.max(m));
+        w = next_fit(s, n, sums, w, i + j - j.max(m));
         if i + j <= w.start {
             i = w.start;
             j = 0;

@@ -1,13 +1,13 @@
 -- Bands added up: a word of n bands stands only where the window of n bands adds up as it does, and a window that moves on by a
 -- band gains the band before it and loses its first.
-use mathlib.Core.Path.{◌≡◌, refl, ap, subst, ◌∙◌}
-use mathlib.Core.List.{List, [], ◌∷◌, ◌++◌, append_assoc}
+use mathlib.Core.Path.{◌≡◌, ap, subst, ◌∙◌}
+use mathlib.Core.Logic.{◌⊎◌, inl, inr}
+use mathlib.Core.List.{List, ◌++◌, append_assoc}
 use Prim.Native.Nat.{ℕ, zero, suc, ◌+◌, ◌-◌, ◌*◌, ◌≤◌, ◌<◌}
 use native.Mathlib.Omega.{arith}
 use native.Mathlib.Decide.{dec_lt}
 use lib.ListN.{length, take, drop, get_or, length-append, take-append-drop}
 use lib.Seq.{take_at, take-append-add, length-take-le}
-use Rattle.words.specs.Turn.{turned}
 use Rattle.words.specs.Stand.{StandsAt}
 use Rattle.lists.specs.Runs.{total}
 use Rattle.lists.proofs.Runs.{total-append, total_more, total_grows}
@@ -22,12 +22,6 @@ stands_adds {c} {s} {n} {h} q st =
     let l : length (x ++ c) ≡ h + n = omega (arith, length-append x c, st.start) in
     let both : take (h + n) s ≡ x ++ c = ap (take (h + n)) p ∙ take_at (x ++ c) y (h + n) l in
     omega (arith, ap total front, ap total both, total-append x c)
-
--- a word adds up to the same turned
-pub turned_total : (c : List ℕ) → total (turned c) ≡ total c
-unfolding turned
-turned_total [] = refl
-turned_total (b ∷ c) = omega (arith, total-append (turned c) (b ∷ []), turned_total c)
 
 -- the window from a start on, as a part of the row
 pub part_adds : (s : List ℕ) (n h : ℕ) → h + n ≤ length s → AddsUp s n h (total (take n (drop h s)))
@@ -63,11 +57,18 @@ module _ {s : List ℕ} {n h v : ℕ} (w : Windowed s n h v) where
           adds_up = rw (f, e) (omega (arith, w.adds_up, first_in, total_more s h (omega arith), total_more s (h + n) l));
         }
 
--- Starts passed over: each that is not below the least adds up otherwise.
-pub skipped_more : {s : List ℕ} {n x least h t v : ℕ} → Skipped s n x h least t → Windowed s n t v
-    → ((least ≤ t) × (v ≡ x) → ⊥) → Skipped s n x h least (t + 1)
-skipped_more {s} {n} {x} {least} {h} {t} {v} k w f = record { other = λ i p q r y. by i p q r y (dec_lt i t) }
+-- Starts passed over: each that is not below the least adds up to neither sum.
+pub skipped_more : {s : List ℕ} {n a b least h t v : ℕ} → Skipped s n a b h least t → Windowed s n t v
+    → ((least ≤ t) × ((v ≡ a) ⊎ (v ≡ b)) → ⊥) → Skipped s n a b h least (t + 1)
+skipped_more {s} {n} {a} {b} {least} {h} {t} {v} k w f =
+    record {
+      not_given = λ i p q r. past a i r (k.not_given i p q) (λ e l. f (omega arith, inl (omega (arith, w.adds_up))));
+      not_turned = λ i p q r. past b i r (k.not_turned i p q) (λ e l. f (omega arith, inr (omega (arith, w.adds_up))));
+    }
   where
-    by : (i : ℕ) → h ≤ i → least ≤ i → i < t + 1 → AddsUp s n i x → Dec (i < t) → ⊥
-    by i p q r y (yes d) = k.other i p q d y
-    by i p q r y (no d) = let e : i ≡ t = omega arith in f (omega arith, omega (arith, w.adds_up, rw e at y))
+    past : (x i : ℕ) → i < t + 1 → (i < t → AddsUp s n i x → ⊥) → (i ≡ t → AddsUp s n t x → ⊥) → AddsUp s n i x → ⊥
+    past x i r old new y = by (dec_lt i t)
+      where
+        by : Dec (i < t) → ⊥
+        by (yes d) = old d y
+        by (no d) = let e : i ≡ t = omega arith in new e (rw e at y)

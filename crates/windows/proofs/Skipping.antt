@@ -33,8 +33,8 @@ module _ {turn : List ℕ → List ℕ} {c s : List ℕ} (as_long : length (turn
 
   module _ {p e g t : ℕ} (b : Both turn c s k p e g t) where
     -- a start before both matches is passed; a later one that does not fit is none either
-    pub both_skip : {q r y : ℕ} → r ≡ max g t → y ≡ total c → y ≡ total (turn c)
-        → Skipped s (length c) y p (e - r) q → Both turn c s k q e g t
+    pub both_skip : {q r y z : ℕ} → r ≡ max g t → y ≡ total c → z ≡ total (turn c)
+        → Skipped s (length c) y z p (e - r) q → Both turn c s k q e g t
     both_skip {q} {r} w u v f =
         record { given = b.given; turned = b.turned; clear = λ h a l. by h a l (is_lt h p) (is_lt h (e - r)) }
       where
@@ -42,5 +42,5 @@ module _ {turn : List ℕ → List ℕ} {c s : List ℕ} (as_long : length (turn
         by h a l (yes d) o x = b.clear h a d x
         by h a l (no d) (yes o) (inl x) = b.given.none_before h a (omega arith) x
         by h a l (no d) (yes o) (inr x) = b.turned.none_before h a (omega arith) x
-        by h a l (no d) (no o) (inl x) = f.other h (omega arith) (omega arith) l (rw u (stands_adds refl x))
-        by h a l (no d) (no o) (inr x) = f.other h (omega arith) (omega arith) l (rw v (stands_adds as_long x))
+        by h a l (no d) (no o) (inl x) = f.not_given h (omega arith) (omega arith) l (rw u (stands_adds refl x))
+        by h a l (no d) (no o) (inr x) = f.not_turned h (omega arith) (omega arith) l (rw v (stands_adds as_long x))

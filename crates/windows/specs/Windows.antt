@@ -12,6 +12,7 @@ pub record Windowed (s : List ℕ) (n start sum : ℕ) : Type 0 where
   pub within : start + n ≤ length s
   pub adds_up : AddsUp s n start sum
 
--- from a start to another, those from the least on that were passed do not add up to a sum
-pub record Skipped (s : List ℕ) (n sum start least to : ℕ) : Type 0 where
-  pub other : (h : ℕ) → start ≤ h → least ≤ h → h < to → AddsUp s n h sum → ⊥
+-- from a start to another, those from the least on that were passed add up to neither of two sums
+pub record Skipped (s : List ℕ) (n given turned start least to : ℕ) : Type 0 where
+  pub not_given : (h : ℕ) → start ≤ h → least ≤ h → h < to → AddsUp s n h given → ⊥
+  pub not_turned : (h : ℕ) → start ≤ h → least ≤ h → h < to → AddsUp s n h turned → ⊥

@@ -3,4 +3,4 @@
 
 mod fitting;
 
-pub use fitting::{Window, next_fit, sum_of, window_at};
+pub use fitting::{Sums, Window, next_fit, sum_of, sums_of, window_at};

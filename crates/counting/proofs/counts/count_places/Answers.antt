@@ -1,5 +1,5 @@
 -- Where the next band is taken the pass holds what it should, by counting_here; the rest follows from that.
-use mathlib.Core.Path.{◌≡◌, refl, sym, ap, ◌∙◌}
+use mathlib.Core.Path.{◌≡◌, refl, ap, ◌∙◌}
 use mathlib.Core.Bool.{true}
 use mathlib.Core.List.{List}
 use Prim.Native.Nat.{ℕ, ◌≤◌, ◌<◌}
@@ -9,7 +9,6 @@ use Rattle.std.specs.Int.{from_bool}
 use Rattle.words.specs.Turn as w
 use Rattle.words.proofs.Ways.{way_size}
 use Rattle.words.proofs.Counting.{count_is}
-use Rattle.windows.proofs.Adding.{turned_total}
 use Rattle.counting.proofs.Counting.{Counting, counting_short, counting_none, counting_in, counting_here}
 use Rattle.counting.proofs.Counting.{counting_all, counting_more}
 use Rattle.counting.proofs.counts.count_places.Goals as goal
@@ -23,9 +22,8 @@ here : (c : After-moved-at) →
     (c.loop-pass.pass.end ≤ m.end) × (m.end < length c.args.s.now)
     × Counting w.turned c.args.c.now c.args.s.now c.next_fit-w.result.start m.end m.given m.turned c.loop-pass.count
 here c =
-    let sum = c.sum_of-sum.ensures in
-    counting_here (as_long c.args.c.now) c.requires.0 c.loop-pass.invariant.1 c.loop-pass-test.true c.max.ensures sum
-    (sum ∙ sym (turned_total c.args.c.now))
+    let sums = c.sums_of-sums.ensures in
+    counting_here (as_long c.args.c.now) c.requires.0 c.loop-pass.invariant.1 c.loop-pass-test.true c.max.ensures sums.0 sums.1
     c.next_fit-w.ensures c.moved-at.ensures
 
 held : (c : After-moved-at) →

@@ -1,5 +1,5 @@
 -- What the search knows at each turn is carried on by the lemmas of Searching, as the code goes.
-use mathlib.Core.Path.{◌≡◌, refl, sym, ap, ◌∙◌}
+use mathlib.Core.Path.{◌≡◌, refl, ap}
 use mathlib.Core.Bool.{true}
 use Prim.Native.Nat.{ℕ}
 use mathlib.Core.List.{List}
@@ -9,7 +9,6 @@ use Rattle.words.specs.Turn.{turned}
 use Rattle.words.proofs.Ways.{way_size}
 use Rattle.matching.proofs.Sizes.{form_size}
 use Rattle.matching.specs.declared.forms.Form.{Form}
-use Rattle.windows.proofs.Adding.{turned_total}
 use Rattle.finding.proofs.Searching.{seeking_none, seeking_in, seeking_skip, seeking_jump, seeking_given}
 use Rattle.finding.proofs.Searching.{seeking_turned, seeking_nowhere, seeking_more, seeking_next, seeking_fall}
 use Rattle.finding.proofs.starts.first_start.Goals as goal
@@ -26,8 +25,8 @@ starts-init c =
 pub loop-j-init : goal.loop-j-init
 loop-j-init c =
     let k = as_long c.args.c.now in
-    let sum = c.sum_of-sum.ensures in
-    let q = seeking_skip k c.starts.invariant.1 c.max.ensures sum (sum ∙ sym (turned_total c.args.c.now)) c.next_fit-w.ensures.1 in
+    let sums = c.sums_of-sums.ensures in
+    let q = seeking_skip k c.starts.invariant.1 c.max.ensures sums.0 sums.1 c.next_fit-w.ensures.1 in
     let l = c.next_fit-w.ensures.0.within in
     elim c.if-i-j.branch [
       | then-i-j w ↦ (refl, omega (arith, l), rw (w.i-is, w.j-is, w.m-is) (seeking_jump k q (omega (arith, l)) w.if-i-j.true))

@@ -4,7 +4,7 @@ use Rattle.windows.specs.Windows.{Windowed, Skipped}
 use Rattle.windows.proofs.fitting.next_fit.Given as goal
 
 abbrev pub invariant-loop-w : goal.invariant-loop-w
-invariant-loop-w l = Windowed l.s l.n l.w.start l.w.sum × Skipped l.s l.n l.sum l.initial.w.start l.least l.w.start
+invariant-loop-w l = Windowed l.s l.n l.w.start l.w.sum × Skipped l.s l.n l.sums.given l.sums.turned l.initial.w.start l.least l.w.start
 
 abbrev pub decreases-loop-w : goal.decreases-loop-w
 decreases-loop-w l = length l.s - l.w.start
