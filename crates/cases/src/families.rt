@@ -22,19 +22,15 @@ pub enum Family {
     Full,
 }
 
-impl TryFrom<&[u8]> for Family {
-    // nothing more is to be said: the name is no family's
-    type Error = ();
-
-    // By its first letter.
-    fn try_from(name: &[u8]) -> Result<Self, ()> {
+impl From<&[u8]> for Family {
+    // By its first letter; any other name is that of the largest lists.
+    fn from(name: &[u8]) -> Self {
         match name {
-            [b't', ..] => Ok(Family::Ties),
-            [b'p', ..] => Ok(Family::Palindromes),
-            [b'n', ..] => Ok(Family::Nested),
-            [b'c', ..] => Ok(Family::Chains),
-            [b'f', ..] => Ok(Family::Full),
-            _ => Err(()),
+            [b't', ..] => Family::Ties,
+            [b'p', ..] => Family::Palindromes,
+            [b'n', ..] => Family::Nested,
+            [b'c', ..] => Family::Chains,
+            _ => Family::Full,
         }
     }
 }

@@ -1,5 +1,4 @@
-// What the fields of a line stand for: bytes, and numbers.
-ghost use Rattle.std.specs.Prelude.{◌≤◌};
+// What the fields of a line stand for: bytes, and numbers. Each character stands for something, so that each line is a case.
 
 use arrayvec::ArrayVec;
 use std::iter;
@@ -14,7 +13,7 @@ enum Next {
     // What stands behind a backslash.
     Escape,
     // The second digit of a byte.
-    LowDigit(usize),
+    LowDigit(u8),
 }
 
 // A bytes field in the reading: what is next, and how often the next byte stands.
@@ -24,12 +23,19 @@ struct Reading {
     times: usize,
 }
 
-// The value of a digit; 0 where it is none. No Option: the None of those who ask is a byte that is not whole yet, and the reference
-// runs no file that has another character here.
-fn digit(b: u8, radix: u32) -> usize
-    requires { (2 ≤ radix) × (radix ≤ 36) }
-{
-    char::from(b).to_digit(radix).unwrap_or(0) as usize
+// A number with one digit more; its last ten digits are kept.
+fn with_digit(n: usize, b: u8) -> usize {
+    n % 1_000_000_000 * 10 + usize::from(b % 16)
+}
+
+// The number that digits stand for.
+fn number(digits: &[u8]) -> usize {
+    digits.iter().fold(0, |n, b| with_digit(n, *b))
+}
+
+// The value of a hexadecimal digit, 0-9A-F.
+fn hexadecimal(b: u8) -> u8 {
+    if b < b'A' { b % 16 } else { b % 16 + 9 }
 }
 
 impl Reading {
@@ -58,8 +64,7 @@ impl Reading {
             self.times = n;
             return self.wait(Next::Plain);
         }
-        let more = n.saturating_mul(10).saturating_add(digit(b, 10));
-        self.wait(Next::Count(more))
+        self.wait(Next::Count(with_digit(n, b)))
     }
 
     fn escape(&mut self, b: u8) -> Option<u8> {
@@ -67,7 +72,7 @@ impl Reading {
             b'r' => self.whole(b'\r'),
             b'n' => self.whole(b'\n'),
             b's' => self.whole(b' '),
-            _ => self.wait(Next::LowDigit(digit(b, 16))),
+            _ => self.wait(Next::LowDigit(hexadecimal(b))),
         }
     }
 
@@ -77,7 +82,7 @@ impl Reading {
             Next::Plain => self.plain(b),
             Next::Count(n) => self.count(n, b),
             Next::Escape => self.escape(b),
-            Next::LowDigit(high) => self.whole((high % 16 * 16 + digit(b, 16) % 16) as u8), // two digits fit
+            Next::LowDigit(high) => self.whole(high % 16 * 16 + hexadecimal(b) % 16),
         }
     }
 }
@@ -98,23 +103,23 @@ pub fn read_bytes<const N: usize>(field: &[u8]) -> ArrayVec<u8, N> {
     row
 }
 
-// The number that a field is, if it is one.
-pub fn read_number(field: &[u8]) -> Option<usize> {
-    str::from_utf8(field).ok()?.parse().ok()
+// The one number that a field is; the last where it has more.
+pub fn read_number(field: &[u8]) -> usize {
+    field.rsplit(|b| *b == b',' || *b == b'x').next().map_or(0, number)
 }
 
-// The numbers that a field stands for, as many as there is room for; None where one of them is none.
-pub fn read_numbers<const N: usize>(field: &[u8]) -> Option<ArrayVec<u16, N>> {
-    let text = str::from_utf8(field).ok()?;
+// The numbers that a field stands for, as many as there is room for.
+pub fn read_numbers<const N: usize>(field: &[u8]) -> ArrayVec<u16, N> {
     let mut row = ArrayVec::new();
     // an empty field has no number
-    if text.is_empty() {
-        return Some(row);
+    if field.is_empty() {
+        return row;
     }
-    for part in text.split(',') {
-        let (times, number) = part.split_once('x').unwrap_or(("1", part));
-        let number: u16 = number.parse().ok()?;
-        let _ = row.extend(iter::repeat_n(number, times.parse().ok()?));
+    for part in field.split(|b| *b == b',') {
+        let mut pieces = part.rsplit(|b| *b == b'x');
+        let value = pieces.next().map_or(0, number);
+        let times = pieces.next().map_or(1, number);
+        let _ = row.extend(iter::repeat_n((value % 65536) as u16, times));
     }
-    Some(row)
+    row
 }

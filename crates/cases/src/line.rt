@@ -16,26 +16,27 @@ impl<'a> Line<'a> {
         Line { text }
     }
 
-    // The field of this number, the kind of the line being field 0, if the line has one; empty where it is `-` alone.
-    pub fn field(self, k: usize) -> Option<&'a [u8]> {
-        match self.text.split(|b| *b == b' ').nth(k)? {
-            b"-" => Some(&[]),
-            field => Some(field),
+    // The field of this number, the kind of the line being field 0; empty where it is `-` alone, or the line has none. No Option:
+    // a line that is cut short runs as a case all the same.
+    pub fn field(self, k: usize) -> &'a [u8] {
+        match self.text.split(|b| *b == b' ').nth(k) {
+            None | Some(b"-") => &[],
+            Some(field) => field,
         }
     }
 
     // The bytes that a field stands for.
-    pub fn bytes<const N: usize>(self, k: usize) -> Option<ArrayVec<u8, N>> {
-        Some(read_bytes(self.field(k)?))
+    pub fn bytes<const N: usize>(self, k: usize) -> ArrayVec<u8, N> {
+        read_bytes(self.field(k))
     }
 
     // The numbers that a field stands for.
-    pub fn numbers<const N: usize>(self, k: usize) -> Option<ArrayVec<u16, N>> {
-        read_numbers(self.field(k)?)
+    pub fn numbers<const N: usize>(self, k: usize) -> ArrayVec<u16, N> {
+        read_numbers(self.field(k))
     }
 
     // The one number that a field is.
-    pub fn number(self, k: usize) -> Option<usize> {
-        read_number(self.field(k)?)
+    pub fn number(self, k: usize) -> usize {
+        read_number(self.field(k))
     }
 }

@@ -1,10 +1,10 @@
 // The names of a generated list.
-ghost use Rattle.std.specs.Prelude.{◌≡◌, ◌*◌, ◌≤◌, length};
+ghost use Rattle.std.specs.Prelude.{◌≡◌, ◌*◌, ◌≤◌, length, min};
 
 use crate::draws::Draws;
 use crate::word_list::Words;
 use arrayvec::ArrayVec;
-use lists::{MOST_NAME_BYTES, MOST_NAME_SIZE};
+use lists::{MOST_CODES, MOST_NAME_BYTES, MOST_NAME_SIZE};
 
 // The bytes of a name; there is room for the longest.
 type Name = ArrayVec<u8, MOST_NAME_SIZE>;
@@ -33,15 +33,14 @@ fn name(i: usize, draws: &mut Draws) -> Name {
     name
 }
 
-// The names of so many codes.
+// The names of so many codes, of as many as a list has at most.
 pub fn draw_names(count: usize, draws: &mut Draws) -> Names
-    requires { count ≤ 128 }
-    ensures each { length result.sizes.items ≡ count }
-    ensures short { length result.bytes.items ≤ 24 * count }
+    ensures each { length result.sizes.items ≡ min count 128 }
+    ensures short { length result.bytes.items ≤ 24 * length result.sizes.items }
 {
     let mut names = Names::new();
     // no chain: each name goes into two rows
-    for i in 0..count {
+    for i in 0..count.min(MOST_CODES) {
         names.push(name(i, draws).as_slice());
     }
     names

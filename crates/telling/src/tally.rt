@@ -1,5 +1,5 @@
 // The checksum over the texts of cases. Where a case is printed in full, what is said is printed as well.
-ghost use Rattle.std.specs.Prelude.{◌≡◌};
+ghost use Rattle.std.specs.Prelude.{◌≡◌, ◌%◌};
 ghost use Rattle.telling.specs.Sums.{fed, fed_all};
 
 use std::fmt;
@@ -24,6 +24,13 @@ impl Checksum {
         self.sum = (fed % MODULUS) as u32; // the modulus is below 2^32
     }
 
+    // Of a longer number its lowest 32 bits go into it.
+    pub fn feed_lowest(&mut self, n: u64)
+        ensures { self.new.sum ≡ fed self.old.sum (n % 4294967296) }
+    {
+        self.feed((n % 4294967296) as u32);
+    }
+
     // Another checksum goes into it.
     pub fn feed_sum(&mut self, other: Checksum)
         ensures { self.new.sum ≡ fed self.old.sum other.sum }
@@ -39,7 +46,7 @@ impl fmt::Display for Checksum {
 }
 
 // What is said of a group's cases: its checksum, whether it is printed, and how many are over, which is the number of the next.
-#[derive(Drop)]
+#[derive_where(Clone, Copy)]
 pub struct Tally<'a, R: Print> {
     pub rt: &'a R,
     pub sum: Checksum,

@@ -63,10 +63,9 @@ impl<'a, R: Print + Drop> Run<'a, R> {
 
     // The cases of a line `make FAMILY COUNT SEED`.
     fn make_line(&mut self, line: Line) -> fmt::Result {
-        let family = Family::try_from(line.field(1).ok_or(fmt::Error)?).map_err(|_| fmt::Error)?;
-        let count = line.number(2).ok_or(fmt::Error)?;
-        let mut draws = Draws::from_seed(line.number(3).ok_or(fmt::Error)?);
-        for i in 0..count {
+        let family = Family::from(line.field(1));
+        let mut draws = Draws::from_seed(line.number(3));
+        for i in 0..line.number(2) {
             run_made(&mut self.tally, family, i, &mut draws)?;
             self.count();
         }
