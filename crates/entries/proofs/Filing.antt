@@ -29,7 +29,7 @@ module _ {ws : List (List ℕ)} {run : List ℕ} {mark : ℕ} {ls : List ℕ} {c
   pub filed_size : length (flat ws) ≡ mark
   filed_size = omega (arith, length-take-le mark run f.in_run, ap length f.run_is)
 
-  filed_total : total (take count ls) ≡ mark
+  pub filed_total : total (take count ls) ≡ mark
   filed_total = ap total f.lengths_are ∙ (total-lengths ws ∙ filed_size)
 
   pub filed_run : total (take count ls) ≤ length (take mark run)

@@ -34,6 +34,9 @@ pub doubled_next : (name : List ℕ) (i : ℕ) → i < length name
 doubled_next name i h = rw (add-one, drop-cons name i 0 h, append-nil)
 
 -- A name as a field.
+pub unquoted : (name : List ℕ) → needs_quotes_lem name ≡ false → field_text name ≡ name
+unquoted name e = rw e
+
 pub quoted : (name : List ℕ) → needs_quotes_lem name ≡ true
     → field_text name ≡ (quote ∷ []) ++ (doubled_quotes name ++ (quote ∷ []))
 quoted name e = rw e

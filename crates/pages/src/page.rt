@@ -27,9 +27,13 @@ pub fn sheet_size(rows: &Rows) -> usize
     let mut size = heading.size;
 
     // A count of each row, not one of all rows: that a count fits is known of a row whose numbers were read. By number as above;
-    // no sum of a map: by how much it may grow in each turn, so that it fits, is the loop's invariant.
+    // no sum of a map: by how much it may grow in each turn, so that it fits, is the loop's invariant. The start of the name goes
+    // along from row to row: no sum of the sizes before it anew.
+    let mut from = 0;
     for code in 0..rows.lengths.len() {
-        size += rows.nth_size(code);
+        let (row, next) = rows.size_from(code, from);
+        size += row;
+        from = next;
     }
     size
 }

@@ -7,7 +7,7 @@ use native.Mathlib.Omega.{arith}
 use lib.ListN.{length, take, drop, get_or, length-append, length-drop}
 use lib.Seq.{length-take-le, drop-cons, drop-drop}
 use Rattle.lists.specs.Runs.{codes_in, total}
-use Rattle.lists.proofs.Runs.{part_to}
+use Rattle.lists.proofs.Runs.{total_more, part_to}
 use Rattle.grammar.specs.Files.{comma}
 use Rattle.grammar.specs.Quoting.{field_text}
 use Rattle.greedy.specs.Dropping.{code_at}
@@ -33,14 +33,14 @@ way_few (Either i) = omega arith
 
 module _ (r : Row) where
   -- its length: two commas and CR LF besides name, way, start, bands and places
-  row_long : length (five_columns r)
+  columns_long : length (five_columns r)
       ≡ length (field_text r.name.now) + length (way_text r.way) + length (decimal r.start) + length r.bands.now + length (decimal r.places) + 4
-  row_long = simp length-append (omega arith)
+  columns_long = simp length-append (omega arith)
 
   -- it is short, where name and code are
   pub row_short : r.start < 4294967296 → r.places < 4294967296 → length (five_columns r) ≤ 131200
   row_short l m =
-      omega (arith, row_long, field_few r.name.now, way_few r.way, decimal_few r.start l, decimal_few r.places m, r.short.0, r.short.1)
+      omega (arith, columns_long, field_few r.name.now, way_few r.way, decimal_few r.start l, decimal_few r.places m, r.short.0, r.short.1)
 
 -- The row of code i, whose name starts at `from`, and the rows from it on.
 module _ (names sizes ls : List ℕ) (ss : List Shown) (ribbon : List ℕ) (from i : ℕ) where
@@ -107,12 +107,27 @@ columns name n s ribbon e = rw (e, part_to ribbon (start_of s.way) n) (by s.way)
     by (Turned i) = refl
     by (Either i) = refl
 
+-- Its length: two commas and CR LF besides the fields.
+pub row_long : (name : List ℕ) (n : ℕ) (s : Shown) (ribbon : List ℕ) {start : ℕ} → start ≡ start_of s.way
+    → start_of s.way + n ≤ length ribbon → length (placed_row name n s ribbon)
+    ≡ length (field_text name) + length (way_text s.way) + length (decimal start) + n + length (decimal s.places) + 4
+row_long name n s ribbon {start} e on =
+    let bands : length (take n (drop start ribbon)) ≡ n =
+    length-take-le n (drop start ribbon) (omega (arith, length-drop start ribbon)) in
+    ap length (columns name n s ribbon e) ∙ rw (part_to ribbon start n) (simp length-append (omega (arith, bands)))
+
 -- The row of code i: its name starts where those before it end.
 module _ {names sizes ls : List ℕ} {ss : List Shown} {ribbon : List ℕ} (r : RowsThere names sizes ls ss ribbon)
     (i : ℕ) (h : i < length ls) where
   module _ {from size : ℕ} (e : from ≡ total (take i sizes)) (s : size ≡ get_or sizes i 0) where
     pub nth_name : from + size ≤ length names
     nth_name = omega (arith, e, s, total_part sizes i (omega (arith, r.one_each)), r.names_there)
+
+    pub nth_next : from + length (take (from + size - from) (drop from names)) ≡ total (take (i + 1) sizes)
+    nth_next =
+        let long : length (take size (drop from names)) ≡ size =
+        length-take-le size (drop from names) (omega (arith, length-drop from names, nth_name)) in
+        rw (add-one, part_to names from size) (omega (arith, long, e, s, total_more sizes i (omega (arith, h, r.one_each))))
 
     nth_code : code_at (codes_in names sizes) i ≡ take (from + size - from) (drop from names)
     nth_code = code_at_lem names sizes i (omega (arith, r.one_each)) ∙ rw (part_to names from size, e, s)

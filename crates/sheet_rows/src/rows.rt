@@ -1,5 +1,6 @@
 // The rows of a sheet: each of them put into a sink, and its length.
-ghost use Rattle.std.specs.Prelude.{◌<◌, ◌≤◌, ◌≡◌, length};
+ghost use Rattle.std.specs.Prelude.{◌+◌, ◌<◌, ◌≤◌, ◌≡◌, length, take};
+ghost use Rattle.lists.specs.Runs.{total};
 ghost use Rattle.fields.specs.Sinks.{Fits, Puts};
 ghost use Rattle.sheet_rows.specs.Placed.{RowsThere};
 
@@ -64,13 +65,15 @@ impl Row<'_> {
 impl Rows<'_> {
     ghost use Rattle.sheet_rows.specs.Sheets.{five_columns, nth};
 
-    // The row of code i. Its name starts behind those before it; it is cut by its size, no item by `nth`: that a size of 16 bits is
-    // read here says that the name is short.
-    fn row(&self, i: usize) -> Row<'_>
-        requires { i < length self.now.lengths.now }
-        ensures { five_columns result ≡ nth self.now i }
+    // The row of code i, whose name starts at `from`. The name is cut by its size, no item by `nth`: that a size of 16 bits is read
+    // here says that it is short.
+    fn row_from(&self, i: usize, from: usize) -> Row<'_>
+        requires listed { i < length self.now.lengths.now }
+        requires start { from ≡ total (take i self.now.names.sizes.now) }
+        ensures row { five_columns result ≡ nth self.now i }
+        ensures next { from + length result.name.now ≡ total (take (i + 1) self.now.names.sizes.now) }
+        ensures fits { from + length result.name.now < 18446744073709551616 }
     {
-        let from = sum_of(&self.names.sizes[..i]);
         let to = from + usize::from(self.names.sizes[i]);
         let shown = self.shown[i];
         let start = shown.way.start();
@@ -83,6 +86,15 @@ impl Rows<'_> {
             bands: &self.ribbon[first..end],
             places: shown.places,
         }
+    }
+
+    // The same; its name starts behind those before it.
+    fn row(&self, i: usize) -> Row<'_>
+        requires { i < length self.now.lengths.now }
+        ensures { five_columns result ≡ nth self.now i }
+    {
+        let from = sum_of(&self.names.sizes[..i]);
+        self.row_from(i, from)
     }
 
     // The row of code i is put into a sink.
@@ -100,5 +112,17 @@ impl Rows<'_> {
         ensures { (result ≡ length (nth self.now i)) × (result ≤ 131200) }
     {
         self.row(i).size()
+    }
+
+    // The same of a row whose name starts at `from`, and where the next name starts: who goes from row to row need not add up the
+    // sizes before each anew.
+    pub fn size_from(&self, i: usize, from: usize) -> (usize, usize)
+        requires listed { i < length self.now.lengths.now }
+        requires start { from ≡ total (take i self.now.names.sizes.now) }
+        ensures size { (result.0 ≡ length (nth self.now i)) × (result.0 ≤ 131200) }
+        ensures next { result.1 ≡ total (take (i + 1) self.now.names.sizes.now) }
+    {
+        let row = self.row_from(i, from);
+        (row.size(), from + row.name.len())
     }
 }

@@ -41,10 +41,10 @@ use Rattle.places.proofs.Finding.{count_missing, none_is_missing, records_are}
 
 -- The refusals of what is supplied, by their tests.
 module _ (run ls row : List ℕ) where
-  false_fault : list_ok_lem run ls ≡ false → supplied_fault_lem run ls row ≡ false_list_number
+  pub false_fault : list_ok_lem run ls ≡ false → supplied_fault_lem run ls row ≡ false_list_number
   false_fault e = rw (e, supplied_fault_lem)
 
-  long_fault : list_ok_lem run ls ≡ true → 16384 < length row → supplied_fault_lem run ls row ≡ long_ribbon_number
+  pub long_fault : list_ok_lem run ls ≡ true → 16384 < length row → supplied_fault_lem run ls row ≡ long_ribbon_number
   long_fault e l = rw (e, lt-ltb 16384 (length row) l, supplied_fault_lem)
 
   pub no_fault : list_ok_lem run ls ≡ true → length row ≤ 16384 → all_bands_lem row ≡ true → supplied_fault_lem run ls row ≡ 0

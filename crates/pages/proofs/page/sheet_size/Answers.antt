@@ -6,8 +6,9 @@ use Rattle.pages.proofs.page.sheet_size.Goals as goal
 pub loop-code-preserved : goal.loop-code-preserved
 loop-code-preserved c =
     let next = next_long c.args.rows.now c.loop-code.code c.loop-code-test.true in (
-      omega (arith, c.nth_size-size.ensures.1, c.loop-code.invariant.0),
-      omega (arith, next, c.nth_size-size.ensures.0, c.loop-code.invariant.1),
+      omega (arith, c.size_from-row.ensures.size.1, c.loop-code.invariant.0),
+      omega (arith, next, c.size_from-row.ensures.size.0, c.loop-code.invariant.1),
+      c.size_from-row.ensures.next,
     )
 
 pub returns : goal.returns
