@@ -105,7 +105,10 @@ pub fn read_bytes<const N: usize>(field: &[u8]) -> ArrayVec<u8, N> {
 
 // The one number that a field is; the last where it has more.
 pub fn read_number(field: &[u8]) -> usize {
-    field.rsplit(|b| *b == b',' || *b == b'x').next().map_or(0, number)
+    field
+        .rsplit(|b| *b == b',' || *b == b'x')
+        .next()
+        .map_or(0, number)
 }
 
 // The numbers that a field stands for, as many as there is room for.

@@ -9,6 +9,7 @@ mod starts;
 mod writing;
 
 pub use endings::overlap;
+pub use falling::go_on;
 pub use forms::Form;
 pub use patterns::Pattern;
 pub use starts::{begins_way, stands};
