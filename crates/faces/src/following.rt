@@ -59,8 +59,8 @@ impl Joining<'_> {
 
     // The lowest face that can come after a with o bands shared: of those that begin with a's last o bands.
     pub(crate) fn lowest_following(&self, a: usize, o: usize, head: usize) -> Option<usize>
-        requires { Row (length self.now.sorted) (row_of self.now.after) × (a < 2 * length self.now.sorted) }
-        ensures { LowestFollows self.now.sorted (row_of self.now.after) a o head result }
+        requires { Row (length self.now.sorted.now) (row_of self.now.after) × (a < 2 * length self.now.sorted.now) }
+        ensures { LowestFollows self.now.sorted.now (row_of self.now.after) a o head result }
     {
         let face = self.sorted.parts().face(a);
         if face.len() < o {

@@ -1,6 +1,10 @@
 // From a list of codes to its ribbon: contained codes dropped, faces put in order, the ribbon of that order written.
 #![tactic(auto)]
 
+ghost use Rattle.std.specs.Prelude.{◌≡◌};
+ghost use Rattle.words.specs.Turn.{turned};
+ghost use Rattle.lists.specs.Runs.{codes_in};
+ghost use Rattle.greedy.specs.Dropping.{kept};
 ghost use Rattle.parts.specs.Parts.{Short};
 ghost use Rattle.layout.specs.Calls.{Gives, order_outcome, kept_outcome, LaysRibbon};
 
@@ -13,7 +17,9 @@ use spelling::Order;
 // A ribbon's length, and what it saves.
 pub type Laid = spelling::Sums<u32>;
 
-// The ribbon of an order of faces, written where it fits.
+// The ribbon of an order of faces, written where it fits. Not inlined, nor are the two stages before it: each leaves the stack,
+// and its rows with it, before the next begins.
+#[inline(never)]
 fn lay_order(order: &Order<'_>, ribbon: &mut [u8]) -> Result<Laid, Refusal>
     ensures { Gives (order_outcome order.now.parts.now order.now.faces.now ribbon.old) ribbon.new result }
 {
@@ -32,6 +38,7 @@ fn lay_order(order: &Order<'_>, ribbon: &mut [u8]) -> Result<Laid, Refusal>
 }
 
 // The ribbon of kept codes.
+#[inline(never)]
 fn lay_kept(parts: &Parts<'_>, ribbon: &mut [u8]) -> Result<Laid, Refusal>
     requires { Short parts.now }
     ensures { Gives (kept_outcome parts.now ribbon.old) ribbon.new result }
@@ -46,6 +53,14 @@ fn lay_kept(parts: &Parts<'_>, ribbon: &mut [u8]) -> Result<Laid, Refusal>
     lay_order(&order, ribbon)
 }
 
+// The codes of a list that are kept.
+#[inline(never)]
+fn kept_of(list: FitList<'_>) -> Parts<'_>
+    ensures { result ≡ kept turned (codes_in list.entry.codes.bytes.now list.entry.codes.sizes.now) }
+{
+    Parts::cut(list.codes).kept()
+}
+
 // Lays out a list of codes, one run of bands and a length for each, into a lent ribbon. It answers with the ribbon's length
 // and what is saved. It refuses a false list by 12, and a ribbon that is too short by 13; then nothing lent is touched.
 // The list comes as two slices, as C passes it.
@@ -53,5 +68,5 @@ pub fn lay_ribbon(bands: &[u8], lengths: &[u16], ribbon: &mut [u8]) -> Result<La
     ensures { LaysRibbon bands.now lengths.now ribbon.old ribbon.new result }
 {
     let list = FitList::of(bands, lengths)?;
-    lay_kept(&Parts::cut(list.codes).kept(), ribbon)
+    lay_kept(&kept_of(list), ribbon)
 }

@@ -19,7 +19,9 @@ pub struct Orders {
 }
 
 // Reads an order list into four lent buffers: for the codes their run and a length each, for the names their run and a
-// length each, as C lends them. A refused call changes no lent byte.
+// length each, as C lends them. A refused call changes no lent byte. Not inlined: its rows leave the stack as it returns, before a
+// program lays out what was read.
+#[inline(never)]
 pub fn read_orders(
     file: &[u8],
     bands: &mut [u8],

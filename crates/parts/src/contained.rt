@@ -26,6 +26,7 @@ impl<'a> Parts<'a> {
     }
 
     // The codes that are kept, in list order.
+    #[inline(never)]
     pub fn kept(&self) -> Parts<'a>
         ensures { result ≡ d.kept turned self.now }
     {

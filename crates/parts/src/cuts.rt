@@ -1,5 +1,5 @@
 // The codes of a list as parts of its run of bands: no code is copied out of it.
-ghost use Rattle.std.specs.Prelude.{◌≡◌, ◌*◌, ◌/◌, ◌<◌, ◌≤◌, [], ◌∷◌, ◌++◌, length};
+ghost use Rattle.std.specs.Prelude.{◌≡◌, ◌*◌, ◌/◌, ◌%◌, eqb, ◌<◌, ◌≤◌, [], ◌∷◌, ◌++◌, length};
 ghost use Rattle.words.specs.Turn.{turned};
 ghost use Rattle.lists.specs.Handed.{words_of};
 ghost use Rattle.greedy.specs.Dropping.{code_at};
@@ -32,7 +32,9 @@ impl<'a> Model for Parts<'a> {
 }
 
 impl<'a> Parts<'a> {
-    // No codes.
+    // No codes. Not inlined, nor are those that fill it: each makes its row aside before it hands it back by value, and what it took
+    // of the stack is free for the next.
+    #[inline(never)]
     pub(crate) fn none() -> Self
         ensures { result ≡ [] }
     {
@@ -52,6 +54,7 @@ impl<'a> Parts<'a> {
     }
 
     // The codes of a list, which are words of a run.
+    #[inline(never)]
     pub fn cut(run: Run<'a>) -> Self
         requires { length (words_of run) ≤ 128 }
         ensures { result ≡ words_of run.entry }
@@ -80,7 +83,7 @@ impl<'a> Parts<'a> {
     }
 
     // Code number k.
-    pub(crate) fn code(&self, k: usize) -> &'a [u8]
+    pub fn code(&self, k: usize) -> &'a [u8]
         requires { k < length self.now }
         ensures { result.now ≡ code_at self.now k }
     {
@@ -90,7 +93,9 @@ impl<'a> Parts<'a> {
     // Face f: code f / 2 as given, or turned where f is odd. Document 01 gives code k the faces 2k and 2k + 1.
     pub fn face(&self, f: usize) -> Form<'a>
         requires { f < 2 * length self.now }
-        ensures { bands_of result ≡ face_of turned self.now f }
+        ensures bands { bands_of result ≡ face_of turned self.now f }
+        ensures word { result.word.now ≡ code_at self.now (f / 2) }
+        ensures way { result.turned ≡ eqb (f % 2) 1 }
     {
         Form {
             word: self.code(f / 2),

@@ -2,9 +2,9 @@
 use mathlib.Core.Path.{◌≡◌, ap, ◌∙◌}
 use mathlib.Core.Logic.{◌≢◌}
 use mathlib.Core.List.{List}
-use Prim.Native.Nat.{ℕ, ◌+◌, ◌-◌, ◌*◌, ◌≤◌, ◌<◌}
+use Prim.Native.Nat.{ℕ, zero, suc, ◌+◌, ◌-◌, ◌*◌, ◌≤◌, ◌<◌}
 use native.Mathlib.Omega.{arith}
-use native.Mathlib.Decide.{dec_le}
+use native.Mathlib.Decide.{ℕ_discrete, dec_le}
 use lib.ListN.{length, take, drop, get_or, length-drop}
 use lib.Seq.{length-take-le, get_or-drop, take_all}
 use Rattle.std.proofs.Common.{get_or-take}
@@ -18,6 +18,32 @@ all_sorted t =
       room = t.room;
       within = t.within;
       each = λ f l none. let x = t.each f l in none x.0 x.1 x.2;
+      rising = t.rising;
+    }
+
+-- A number that is not missing among the first n faces has a place there: equality of numbers is decided place by place.
+place_of : (faces : List ℕ) (f n : ℕ) → (((i : ℕ) → i < n → get_or faces i 0 ≢ f) → ⊥) → (i : ℕ) × (i < n) × (get_or faces i 0 ≡ f)
+place_of faces f zero some = absurd (some (λ i l. absurd (omega arith)))
+place_of faces f (suc n) some = go (ℕ_discrete (get_or faces n 0) f) (place_of faces f n)
+  where
+    go : Dec (get_or faces n 0 ≡ f)
+        → ((((i : ℕ) → i < n → get_or faces i 0 ≢ f) → ⊥) → (i : ℕ) × (i < n) × (get_or faces i 0 ≡ f))
+        → (i : ℕ) × (i < suc n) × (get_or faces i 0 ≡ f)
+    go (yes e) earlier = (n, omega arith, e)
+    go (no d) earlier =
+        let x = earlier (λ none. some (λ i l. at i l none (ℕ_discrete i n))) in (x.0, omega (arith, x.1), x.2)
+      where
+        at : (i : ℕ) → i < suc n → ((j : ℕ) → j < n → get_or faces j 0 ≢ f) → Dec (i ≡ n) → get_or faces i 0 ≢ f
+        at i l none (yes q) = rw q d
+        at i l none (no q) = none i (omega arith)
+
+-- the other way round: what is told of all faces gives each its place
+pub sorted_faces : {ks : List (List ℕ)} {sorted : List ℕ} → AllSorted ks sorted → SortedFaces ks sorted
+sorted_faces {ks} {sorted} t =
+    record {
+      room = t.room;
+      within = t.within;
+      each = λ f l. place_of sorted f (2 * length ks) (t.each f l);
       rising = t.rising;
     }
 
@@ -92,7 +118,8 @@ module _ (ks : List (List ℕ)) (sorted x : List ℕ) (p e : ℕ) (t : AllSorted
               let m : j < e = omega (arith, range_size) in
               omega (arith, at j m, t.within (p + j) (there j m));
           one = λ j k. one j (omega (arith, range_size));
-          each = λ f k s none. t.each f k (λ i m is. found f s none i m is (dec_le p i) (dec_le e (i - p)));
+          each = λ f k s none.
+              let x = (sorted_faces t).each f k in found f s none x.0 x.1 x.2 (dec_le p x.0) (dec_le e (x.0 - p));
         }
       where
         found : (f : ℕ) → side_of (face_of turned ks f) x ≡ 1 → ((i : ℕ) → i < length range → get_or range i 0 ≢ f)

@@ -31,7 +31,8 @@ impl<'a> Model for Sorted<'a> {
 }
 
 impl<'a> Sorted<'a> {
-    // Face after face is put in its place.
+    // Face after face is put in its place. Not inlined: the row that it fills leaves the stack as it returns.
+    #[inline(never)]
     pub fn of(parts: &'a Parts<'a>) -> Self
         ensures { result ≡ parts.now }
     {

@@ -17,7 +17,9 @@ pub struct Wrote {
     pub saved: u32,
 }
 
-// The sheet of a fit list with names and its ribbon, written where it fits.
+// The sheet of a fit list with names and its ribbon, written where it fits. Not inlined: its rows stand on the stack where those of
+// laying out stood.
+#[inline(never)]
 fn write_laid(
     list: FitList<'_>,
     names: FitNames<'_>,

@@ -4,5 +4,5 @@ use Rattle.sorting.proofs.insertion.sort_in.Goals as goal
 
 pub returns : goal.returns
 returns c =
-    let w = narrowed_front _ _ _ c.requires.2.room (rw c.face.ensures at c.first_place-p.ensures) in
+    let w = narrowed_front _ _ _ c.requires.2.room (rw c.face.ensures.bands at c.first_place-p.ensures) in
     sorted_next c.requires.2 w c.insert.ensures c.requires.1

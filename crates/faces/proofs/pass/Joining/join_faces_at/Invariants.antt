@@ -3,4 +3,4 @@ use Rattle.faces.specs.Joining.{ComesTo}
 use Rattle.faces.proofs.pass.Joining.join_faces_at.Given as goal
 
 abbrev pub invariant-loop-a : goal.invariant-loop-a
-invariant-loop-a l = ComesTo l.initial.self.sorted l.o l.a l.self
+invariant-loop-a l = ComesTo l.initial.self.sorted.now l.o l.a l.self

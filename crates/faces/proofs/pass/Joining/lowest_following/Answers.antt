@@ -7,12 +7,12 @@ use Rattle.faces.proofs.pass.Joining.lowest_following.Goals as goal
 
 pub returns-then-len-o : goal.returns-then-len-o
 returns-then-len-o c =
-    let size = face_size c.face-face.result (rw c.parts.ensures at c.face-face.ensures) in
+    let size = face_size c.face-face.result (rw c.parts.ensures at c.face-face.ensures.bands) in
     follows_none _ c.args.a c.args.o (omega arith)
 
 pub returns : goal.returns
 returns c =
-    let face = rw c.parts.ensures at c.face-face.ensures in
+    let face = rw c.parts.ensures at c.face-face.ensures.bands in
     let size = face_size c.face-face.result face in
     follows_lowest c.args.a c.args.o (omega arith) (rw (c.last.ensures.bands, face) at c.beginning_with.ensures) _ _
     c.mirror_of.ensures.0 _ c.lowest_among.ensures

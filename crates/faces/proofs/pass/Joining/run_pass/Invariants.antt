@@ -4,4 +4,4 @@ use Rattle.faces.specs.Joining.{ComesTo}
 use Rattle.faces.proofs.pass.Joining.run_pass.Given as goal
 
 abbrev pub invariant-loop-o : goal.invariant-loop-o
-invariant-loop-o l = ComesTo l.initial.self.sorted l.o (2 * length l.initial.self.sorted) l.self
+invariant-loop-o l = ComesTo l.initial.self.sorted.now l.o (2 * length l.initial.self.sorted.now) l.self

@@ -10,7 +10,7 @@ returns-then-lt c =
     let e = c.in-Some.ensures.cases.0 in
     let q = rw e at c.args.self.rising in
     let l = side_less Equal c.side.result (sym c.if-lt.ensures) in
-    rw e (narrow_down q _ narrow_none (rw c.face.ensures at c.side.ensures) (omega arith) (omega arith) (omega arith))
+    rw e (narrow_down q _ narrow_none (rw c.face.ensures.bands at c.side.ensures) (omega arith) (omega arith) (omega arith))
 
 pub invariant_of-others : goal.invariant_of-others
 invariant_of-others c = record { rising = others_rise (rw c.in-Some.ensures.cases.0 at c.args.self.rising) }

@@ -13,7 +13,7 @@ put_way-at-requires c =
     let l = c.loop-f in
     let t = zip_turn c.args.self.now.faces.now c.args.skips.now l.yielded c.into_iter-f-iterator.result l.f-iterator c.next.new.self c.next.result (search rules) (search rules) l.yielded_by _ c.in-Some.is c.next.ensures.steps in
     let size = way_size c.face.result.turned c.face.result.word.now in
-    let fits = write_fits c.args.self.now.in_order t.0 (rw (t.2 0) at c.face.ensures) (t.3 0 ∙ c.requires.skips.each _ t.0) l.invariant.behind
+    let fits = write_fits c.args.self.now.in_order t.0 (rw (t.2 0) at c.face.ensures.bands) (t.3 0 ∙ c.requires.skips.each _ t.0) l.invariant.behind
     {room = length l.ribbon} (omega (arith, c.requires.room)) in
     (omega (arith, fits.0), omega (arith, fits.1))
 
@@ -21,7 +21,7 @@ pub loop-f-preserved : goal.loop-f-preserved
 loop-f-preserved c =
     let l = c.loop-f in
     let t = zip_turn c.args.self.now.faces.now c.args.skips.now l.yielded c.into_iter-f-iterator.result l.f-iterator c.next.new.self c.next.result (search rules) (search rules) l.yielded_by _ c.in-Some.is c.next.ensures.steps in
-    let w = write_next c.args.self.now.in_order t.0 (rw (t.2 0) at c.face.ensures) (t.3 0 ∙ c.requires.skips.each _ t.0) l.invariant.behind c.args.ribbon.now
+    let w = write_next c.args.self.now.in_order t.0 (rw (t.2 0) at c.face.ensures.bands) (t.3 0 ∙ c.requires.skips.each _ t.0) l.invariant.behind c.args.ribbon.now
     l.invariant.written c.put_way-at.ensures in
     let n : length (l.yielded ++ (c.in-Some.f, c.in-Some.skip) ∷ []) ≡ length l.yielded + 1 = length-append l.yielded _ in
     rw n (record { behind = w.0; written = w.1 })
