@@ -6,8 +6,8 @@ use mathlib.Core.List.{List, ◌∷◌}
 use Prim.Native.Nat.{ℕ, zero, suc, ◌+◌, ◌-◌, ◌≤◌, ◌<◌}
 use native.Mathlib.Omega.{arith}
 use native.Mathlib.Decide.{ℕ_discrete, dec_le}
-use lib.ListN.{length, take, get_or, set, length-set}
-use lib.Seq.{length-take-le, get_or-set_same, get_or-set_other}
+use lib.ListN.{length, take, get_or}
+use lib.Seq.{length-take-le}
 use Rattle.std.proofs.Common.{true, false, Ordering, is_lt, nat_cmp, get_or-take}
 use Rattle.std.specs.Ordering.{ordering_index}
 use Rattle.std.proofs.lemmas.Bool.Decides.{nat_tests}
@@ -90,40 +90,6 @@ module _ {ks : List (List ℕ)} {faces : List ℕ} (q : Rising ks faces) (x : Li
           below = w.below;
           above = λ i g f. omega (arith, rise mid i g f);
         }
-
--- Moving up: the places from i on are moved, those up to i are as before.
-pub record Shifted (old : List ℕ) (p m i : ℕ) (new : List ℕ) : Type 0 where
-  pub as_long : length new ≡ length old
-  pub least : p ≤ i
-  pub most : i ≤ m
-  pub still : (j : ℕ) → j ≤ i → get_or new j 0 ≡ get_or old j 0
-  pub moved : (j : ℕ) → i ≤ j → j < m → get_or new (j + 1) 0 ≡ get_or old j 0
-
-module _ {old new : List ℕ} {p m i : ℕ} (s : Shifted old p m i new) (room : m < length old) where
-  pub shift_next : p < i → Shifted old p m (i - 1) (set new i (get_or new (i - 1) 0))
-  shift_next l =
-      record {
-        as_long = length-set new i (get_or new (i - 1) 0) ∙ s.as_long;
-        least = omega arith;
-        most = omega (arith, s.most);
-        still = λ j h. get_or-set_other new i j (get_or new (i - 1) 0) 0 (λ e. omega arith) ∙ s.still j (omega arith);
-        moved = λ j h g. go j h g (ℕ_discrete (j + 1) i);
-      }
-    where
-      go : (j : ℕ) → i - 1 ≤ j → j < m → Dec (j + 1 ≡ i) → get_or (set new i (get_or new (i - 1) 0)) (j + 1) 0 ≡ get_or old j 0
-      go j h g (yes e) =
-          let d : i - 1 ≡ j = omega arith in
-          rw (e, get_or-set_same new i (get_or new (i - 1) 0) 0 (omega (arith, s.most, s.as_long)), d) (s.still j (omega arith))
-      go j h g (no d) = get_or-set_other new i (j + 1) (get_or new (i - 1) 0) 0 d ∙ s.moved j (omega arith) g
-
-  pub shift_end : (f : ℕ) → i ≤ p → Inserted old p m f (set new p f)
-  shift_end f l =
-      record {
-        as_long = length-set new p f ∙ s.as_long;
-        before = λ j h. get_or-set_other new p j f 0 (λ e. omega arith) ∙ s.still j (omega (arith, s.least));
-        at = get_or-set_same new p f 0 (omega (arith, s.as_long, s.least, s.most));
-        later = λ j h g. get_or-set_other new p (j + 1) f 0 (λ e. omega arith) ∙ s.moved j (omega arith) g;
-      }
 
 -- Face f is put in at p, where the faces before are before it and those from there on are not.
 module _ {ks : List (List ℕ)} {old new : List ℕ} {f p : ℕ} (t : SortedBelow ks f old)

@@ -13,10 +13,7 @@ fn insert(sorted: &mut [usize], p: usize, m: usize, f: usize)
     requires { (p ≤ m) × (m < length sorted.old) }
     ensures { Inserted sorted.old p m f sorted.new }
 {
-    // By a loop, from the last down: for `copy_within` an archive for C would need memmove from outside.
-    for i in (p..m).rev() {
-        sorted[i + 1] = sorted[i];
-    }
+    sorted.copy_within(p..m, p + 1);
     sorted[p] = f;
 }
 
