@@ -80,7 +80,7 @@ struct ribbons_sheet {
 
 /* Reads an order list, an RFC 4180 file with the heading row name,code: its codes to the beginnings of bands and lengths,
    its names to those of names and sizes. Refuses by 1, then by the earliest faulty row and its lowest number of 2 to 10,
-   then by 11, then by 13. Stack, measured: 33,672 bytes. */
+   then by 11, then by 13. Stack, measured: 33,736 bytes. */
 struct ribbons_orders ribbons_read_orders(
     const uint8_t *file, size_t file_count,
     uint8_t *bands, size_t bands_count,
@@ -90,14 +90,14 @@ struct ribbons_orders ribbons_read_orders(
 
 /* Lays out a list: its ribbon to the beginning of ribbon. Every code of the list stands on it. Whatever row of bytes
    somebody else holds on which every code stands, the kept codes' lengths, added up, are at most its length plus twice
-   saved. Refuses by 12, then by 13. Stack, measured: 18,728 bytes. */
+   saved. Refuses by 12, then by 13. Stack, measured: 12,744 bytes. */
 struct ribbons_laid ribbons_lay_ribbon(
     const uint8_t *bands, size_t bands_count,
     const uint16_t *lengths, size_t lengths_count,
     uint8_t *ribbon, size_t ribbon_count);
 
 /* Checks a supplied ribbon against a list. It writes nothing. Refuses by 12, by 15, then by 8 for a byte of the ribbon.
-   Stack, measured: 28,568 bytes. */
+   Stack, measured: 22,552 bytes. */
 struct ribbons_checked ribbons_check_ribbon(
     const uint8_t *bands, size_t bands_count,
     const uint16_t *lengths, size_t lengths_count,
@@ -106,7 +106,7 @@ struct ribbons_checked ribbons_check_ribbon(
 /* Lays out a list with names and writes its sheet to the beginning of out: the heading row name,way,start,bands,places,
    then a row for each code in list order, each ending in CR LF. Its way is given or turned, or either for a code equal to
    its turned form; its places are the number of starts at which it stands either way, each start once. Refuses by 12, then
-   by 13. Stack, measured: 35,464 bytes. */
+   by 13. Stack, measured: 24,488 bytes. */
 struct ribbons_sheet ribbons_write_sheet(
     const uint8_t *bands, size_t bands_count,
     const uint16_t *lengths, size_t lengths_count,

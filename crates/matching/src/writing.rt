@@ -18,13 +18,11 @@ pub fn put_way(form: Form<'_>, skip: usize, row: &mut [u8], at: usize) -> usize
     at + n
 }
 
-// c is written on the row from `at` on; the answer is the place behind it.
-// One copy of the whole: `put_way` of a given form would ask at each byte which way the word is read.
+// c is written on the row from `at` on; the answer is the place behind it. By `put_way`: for `copy_from_slice` an archive for C would
+// need memmove from outside.
 pub fn put_word(c: &[u8], row: &mut [u8], at: usize) -> usize
     requires { at + length c.now ≤ length row.old }
     ensures { Written row.old at c.now row.new result }
 {
-    let end = at + c.len();
-    row[at..end].copy_from_slice(c);
-    end
+    put_way(Form::given(c), 0, row, at)
 }

@@ -46,6 +46,16 @@ fn put_run(run: Run, bytes: &mut [u8], sizes: &mut [u16])
     ensures bytes { bytes.new ≡ over run.entry.bytes.now bytes.old }
     ensures sizes { sizes.new ≡ over run.entry.sizes.now sizes.old }
 {
-    bytes[..run.bytes.len()].copy_from_slice(run.bytes);
-    sizes[..run.sizes.len()].copy_from_slice(run.sizes);
+    matching::put_word(run.bytes, bytes, 0);
+    put_lengths(run.sizes, sizes);
+}
+
+// Lengths, written at the beginning of a buffer. By number: for `copy_from_slice` an archive for C would need memmove from outside.
+fn put_lengths(from: &[u16], to: &mut [u16])
+    requires { length from.now ≤ length to.old }
+    ensures { to.new ≡ over from.now to.old }
+{
+    for i in 0..from.len() {
+        to[i] = from[i];
+    }
 }

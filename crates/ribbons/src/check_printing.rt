@@ -23,9 +23,8 @@ fn check_line(list: &OrderList, ribbon: &[u8], out: &mut [u8]) -> usize
 pub fn check_output(list: &[u8], ribbon_file: &[u8], out: &mut [u8; MOST_LINE_BYTES]) -> usize
     ensures { WritesOver (check_output_lem list.now ribbon_file.now) out.old out.new result }
 {
-    // by reference: a list moved out of its result would be on the stack twice
-    match &OrderList::read(list) {
-        Ok(orders) => check_line(orders, ribbon_of(ribbon_file), out),
-        Err(r) => write_line(Err(*r), out),
+    match OrderList::read(list) {
+        Ok(orders) => check_line(&orders, ribbon_of(ribbon_file), out),
+        Err(r) => write_line(Err(r), out),
     }
 }

@@ -26,9 +26,7 @@ impl OrderList {
     ghost use Rattle.lists.specs.Handed.{words_of};
     ghost use Rattle.ribbons.specs.OrderLists.{codes_of, names_of, ReadAs};
 
-    // The list in a file, or its refusal, which is never one of our buffers. Not inlined: its rows, from which the list is made, leave the
-    // stack as it returns.
-    #[inline(never)]
+    // The list in a file, or its refusal, which is never one of our buffers.
     pub fn read(file: &[u8]) -> Result<OrderList, Refusal>
         ensures { ReadAs file.now result }
     {

@@ -27,9 +27,8 @@ fn ribbon_line(list: &OrderList, out: &mut [u8]) -> usize
 pub fn ribbon_output(file: &[u8], out: &mut [u8; MOST_BANDS + 2]) -> usize
     ensures { WritesOver (ribbon_output_lem file.now) out.old out.new result }
 {
-    // by reference: a list moved out of its result would be on the stack twice
-    match &OrderList::read(file) {
-        Ok(list) => ribbon_line(list, out),
-        Err(r) => write_line(Err(*r), out),
+    match OrderList::read(file) {
+        Ok(list) => ribbon_line(&list, out),
+        Err(r) => write_line(Err(r), out),
     }
 }

@@ -33,9 +33,8 @@ fn sheet_text(list: &OrderList, out: &mut [u8]) -> usize
 pub fn sheet_output(file: &[u8], out: &mut [u8; MOST_SHEET_BYTES]) -> usize
     ensures { WritesOver (sheet_output_lem file.now) out.old out.new result }
 {
-    // by reference: a list moved out of its result would be on the stack twice
-    match &OrderList::read(file) {
-        Ok(list) => sheet_text(list, out),
-        Err(r) => write_line(Err(*r), out),
+    match OrderList::read(file) {
+        Ok(list) => sheet_text(&list, out),
+        Err(r) => write_line(Err(r), out),
     }
 }

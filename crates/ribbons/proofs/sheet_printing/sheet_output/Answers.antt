@@ -9,4 +9,4 @@ abbrev written : Orders → List ℕ
 written x = sheet_text_lem x.names x.codes
 
 pub returns-in-Ok : goal.returns-in-Ok
-returns-in-Ok c = writes_list written c.args.file.now (rw c.in-Ok.is at c.read.ensures) c.sheet_text.ensures
+returns-in-Ok c = writes_list written c.args.file.now c.in-Ok.ensures c.sheet_text.ensures
